@@ -3,7 +3,7 @@
 use Rattle.std.proofs.Common.{◌≡◌, ◌∙◌, ℕ, ◌+◌, ◌-◌, ◌*◌, ◌/◌, ◌%◌, ◌^◌, ◌<◌, ◌≤◌, true, false, cond, refl, ap, sym, subst, arith, List, ◌∷◌, length, Option, Some, None, Ok, Err, inl, inr, ◌⊎◌, is_some}
 use Rattle.std.specs.Prelude.{is_ok, nat_le, nat_lt, ◌&&◌}
 use Rattle.std.specs.Option.{option_and_then}
-use Rattle.std.proofs.lemmas.Bool.{cases_lt, false≢true, leb-true}
+use Rattle.std.proofs.lemmas.Bool.{false≢true, leb-true}
 use Rattle.std.proofs.lemmas.Bool.Decides.{nat_tests}
 use Rattle.ffa_model.specs.declared.leaf.Leaf.{Leaf}
 use Rattle.ffa_model.specs.declared.rights.Rights.{Rights}
@@ -20,13 +20,14 @@ use Rattle.ffa_physmem.specs.Moments.{Adds, AreInTurn, Only, Past, Step, TurnsIn
 use Rattle.ffa_physmem.proofs.Moments.{Adds-none, Only-both, Only-each, Only-map}
 use Rattle.ffa_stage2.specs.Amid.{Amid, Moment, behind}
 use Rattle.ffa_stage2.specs.Held.{HeldBetween}
-use Rattle.ffa_stage2.specs.Mixtures.{IsMixture, MixedBetween, MixturesBetween, page_at}
+use Rattle.ffa_stage2.specs.Mixed.{MixedBetween}
+use Rattle.ffa_stage2.specs.Mixtures.{page_at}
 use Rattle.ffa_stage2.specs.Moments.{walk_at}
 use Rattle.ffa_stage2.specs.Rest.{RestIn}
 use Rattle.ffa_stage2.specs.Tables.{HasRoom, IsAside}
-use Rattle.ffa_stage2.proofs.Amid.{Along, Leads, LeadsBehind, along-amid, between-amid, leads-mixed, mixed-rest, mixtures-rest, rest-amid, walks-amid}
+use Rattle.ffa_stage2.proofs.Amid.{Along, Leads, LeadsBehind, along-amid, held-amid, held-rest, leads-mixed, mixed-rest, rest-amid, walks-amid}
 use Rattle.ffa_stage2.proofs.Kept.{HasRoom-kept}
-use Rattle.ffa_stage2.proofs.Rest.{Only-turn, held-mixed}
+use Rattle.ffa_stage2.proofs.Rest.{Only-turn}
 use Rattle.ffa_spmc.specs.Amid.{EndsAmid, StandsAmid, StaysAmid}
 use Rattle.ffa_spmc.specs.Unowned.{IsNoTable, OwnsNoTables}
 use Rattle.ffa_spmc.proofs.Besides.{placement}
@@ -37,20 +38,6 @@ pub seen : (x : State) (ram : Ram) (tables b e a : ℕ) → Agrees ram x → x.t
 seen x ram tables b e a agrees place blocks he ha =
     ap (λ (c : ℕ). walk ram (root_of c tables b e) a) agrees.place ∙ ap (λ (t : ℕ). walk ram (root_of x.ram_base t b e) a) (sym place)
     ∙ ap (λ (k : ℕ). walk ram (root_of x.ram_base x.tables k e) a) (sym blocks) ∙ agrees.walks e a he ha
-
--- what may be held is the answer of a walk in a mixture
-pub held-between : (old new ram : Ram) (n tables b : ℕ) (h : List Step) → AreInTurn h ram → MixturesBetween old new n tables b h ram → HeldBetween old new n tables b h ram
-held-between old new ram n tables b h turn between a answer ha held =
-    elim (between a (λ e. (pick e).0) ha (λ e he. ((pick e).1 he).0)) [
-      | inl each ↦ inl (λ e he. elim (each e he) [ inl is ↦ inl (((pick e).1 he).1 ∙ is) | inr none ↦ inr (((pick e).1 he).1 ∙ none) ])
-      | inr each ↦ inr (λ e he. elim (each e he) [ inl is ↦ inl (((pick e).1 he).1 ∙ is) | inr none ↦ inr (((pick e).1 he).1 ∙ none) ])
-    ]
-  where
-    pick : (e : ℕ) → (m : Ram) × (e < n → IsMixture tables b e (page_at ram a) h ram m × (answer e ≡ walk_at m tables b e a))
-    pick e = elim (cases_lt e n) [
-      | inl lt ↦ let (m, mix, is) = held-mixed tables b e (page_at ram a) a h ram (answer e) turn (held e lt) in (m, λ _. (mix, is))
-      | inr out ↦ (ram, λ lt. absurd (omega (arith, out, lt)))
-    ]
 
 -- the tables of a sound state have room
 pub room-of : (s : State) (ram : Ram) → IsSoundState s → Agrees ram s → HasRoom ram (length s.parties) s.tables (blocks_of s)
@@ -105,7 +92,7 @@ module _ (s t : State) (old new : Ram) (was : Agrees old s) (is : Agrees new t) 
     (size : length t.pages ≡ length s.pages) (sound : IsSoundState s) (none : OwnsNoTables s) (none' : OwnsNoTables t) (past later : Past) (turns : TurnsIn new later)
     (rest : RestIn old (length s.parties) s.tables (blocks_of s) past) (rest' : RestIn new (length s.parties) s.tables (blocks_of s) later)
     (mixed : Only past later (λ h step. MixedBetween old new (length s.parties) s.tables (blocks_of s) (step ∷ h) step.after))
-    (between : Only past later (λ h step. MixturesBetween old new (length s.parties) s.tables (blocks_of s) (step ∷ h) step.after)) where
+    (between : Only past later (λ h step. HeldBetween old new (length s.parties) s.tables (blocks_of s) (step ∷ h) step.after)) where
   abbrev n : ℕ
   n = length s.parties
 
@@ -149,24 +136,20 @@ module _ (s t : State) (old new : Ram) (was : Agrees old s) (is : Agrees new t) 
     first-leads : Leads old new n tables b g old
     first-leads = leads-mixed old new old n tables b g (rest g there).turn (mixed-rest old new n tables b g room stays (rest g there))
 
-    first-between : MixturesBetween old new n tables b g old
-    first-between = mixtures-rest old new n tables b g room (rest g there)
+    first-between : HeldBetween old new n tables b g old
+    first-between = held-rest old new n tables b g room (rest g there)
 
     along : Adds past.steps Leading alone.history → Along old new n tables b g (rest g there).begun (rest g there).turn first-leads first-between far alone memory written
     along adds =
         along-amid old new n tables b g (rest g there).begun (rest g there).turn first-leads first-between far alone memory written amid
         (subst (λ (o : Option (List Step)). Adds o Leading alone.history) there adds)
 
-    walks-now : Adds past.steps Leading alone.history → MixturesBetween old new n tables b memory.history memory.ram
-    walks-now adds = between-amid old new n tables b g (rest g there).begun (rest g there).turn first-leads first-between far alone memory written (along adds)
-
     stands-now : Adds past.steps Leading alone.history → StandsAmid old new n tables b alone memory written
     stands-now adds = record {
       theirs = (along adds).theirs;
       beside = (along adds).beside;
       bytes = (along adds).bytes;
-      walks = walks-now adds;
-      held = held-between old new memory.ram n tables b memory.history (along adds).follow (walks-now adds);
+      held = held-amid old new n tables b g (rest g there).begun (rest g there).turn first-leads first-between far alone memory written (along adds);
     }
 
   module _ (g h : List Step) (there : past.steps ≡ Some g) (last : later.steps ≡ Some h) (memory : Moment) (written : List ℕ)

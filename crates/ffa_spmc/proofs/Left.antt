@@ -221,7 +221,7 @@ unfolding StayMixed
 leaves-amid old new was is sound parties placed size walks mixed begun ended there last memory written amid =
     let (stands, ends) = mixed.amid.ended ended last begun there memory written amid in
     let beside : StandsAmid old.ram new.ram (length old.state.parties) old.state.tables (blocks_of old.state) (record { history = memory.history; ram = new.ram }) memory written =
-    record { theirs = stands.theirs; beside = stands.beside; bytes = stands.bytes; walks = stands.walks; held = stands.held } in
+    record { theirs = stands.theirs; beside = stands.beside; bytes = stands.bytes; held = stands.held } in
     (_, is-left old new was is sound parties placed size memory written beside ends walks)
 
 pub left-operated : (old new : Snapshot) (op : Op) → IsOperated old op new → Agrees old.ram old.state → IsSoundState old.state → LeavesAmid old new

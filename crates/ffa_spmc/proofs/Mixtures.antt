@@ -17,16 +17,18 @@ use Rattle.ffa_laws.specs.OwnAccess.{IsSameOrNone, OwnAccess}
 use Rattle.ffa_laws.proofs.Kept.{step-fixed}
 use Rattle.ffa_physmem.specs.Moments.{Only}
 use Rattle.ffa_physmem.proofs.Moments.{Only-map}
-use Rattle.ffa_stage2.specs.Mixtures.{MixturesBetween}
+use Rattle.ffa_stage2.specs.Held.{HeldBetween}
+use Rattle.ffa_stage2.specs.Mixed.{WalksSameOrNone}
 use Rattle.ffa_stage2.specs.Moments.{walk_at}
-use Rattle.ffa_stage2.specs.Rest.{RestIn, WalksSameOrNone}
+use Rattle.ffa_stage2.specs.Rest.{RestIn}
+use Rattle.ffa_stage2.proofs.Amid.{held-between}
 use Rattle.ffa_stage2.proofs.Mixtures.{OneDiffers, mixtures-between}
 use Rattle.ffa_stage2.proofs.Rest.{Only-turn}
 use Rattle.ffa_spmc.specs.Machines.{IsManaged}
 use Rattle.ffa_spmc.specs.Managed.{Managed}
 use Rattle.ffa_spmc.specs.Mixtures.{StayMixed, TablesRest}
 use Rattle.ffa_spmc.specs.Moments.{AreMoments, IsMixed}
-use Rattle.ffa_spmc.proofs.Amid.{held-between, seen, stays-amid}
+use Rattle.ffa_spmc.proofs.Amid.{seen, stays-amid}
 use Rattle.ffa_spmc.proofs.Besides.{placement}
 use Rattle.ffa_spmc.proofs.Sizes.{pages-step}
 
@@ -86,30 +88,27 @@ module _ (m n : Managed) (was : IsManaged m) (is : IsManaged n) (parties : lengt
     | inr (inr same) ↦ behind e a he ha ∙ ap (λ (o : Option Rights). mapped_answer o a) same ∙ sym (before e a he ha)
   ]
 
-  all-mixed : AreMoments m.state m.ram n.ram m.past n.past → TablesRest m.state m.ram m.past
-      → Only m.past n.past (λ h step. MixturesBetween m.ram n.ram (length m.state.parties) m.state.tables (blocks_of m.state) (step ∷ h) step.after)
+  all-held : AreMoments m.state m.ram n.ram m.past n.past → TablesRest m.state m.ram m.past
+      → Only m.past n.past (λ h step. HeldBetween m.ram n.ram (length m.state.parties) m.state.tables (blocks_of m.state) (step ∷ h) step.after)
   unfolding IsMixed TablesRest
-  all-mixed moments rest =
-      Only-map (moments.mixtures.each rest) (λ h step its. mixtures-between m.ram n.ram step.after (length m.state.parties) m.state.tables (blocks_of m.state) (step ∷ h) one-differs its)
+  all-held moments rest = Only-map (Only-turn n.ram is.turn (moments.mixtures.each rest)) (λ h step its.
+      let (turn, between) = its in
+      held-between m.ram n.ram step.after (length m.state.parties) m.state.tables (blocks_of m.state) (step ∷ h) turn
+      (mixtures-between m.ram n.ram step.after (length m.state.parties) m.state.tables (blocks_of m.state) (step ∷ h) one-differs between))
 
   -- So it is while the operation is done, and behind it the tables are at rest by either state.
   pub mixed : AreMoments m.state m.ram n.ram m.past n.past → TablesRest m.state m.ram m.past
       → StayMixed m.state m.ram n.ram m.past n.past × TablesRest n.state n.ram n.past
   unfolding StayMixed IsMixed TablesRest
   mixed moments rest =
-      let still = moments.mixtures.rest rest is-steady in
-      let all = all-mixed moments rest in (
+      let still = moments.mixtures.rest rest is-steady in (
         record {
-          walks = all;
-          held = Only-map (Only-turn n.ram is.turn all) (λ h step its.
-              let (turn, between) = its in
-              held-between m.ram n.ram step.after (length m.state.parties) m.state.tables (blocks_of m.state) (step ∷ h) turn between);
           unheld = moments.mixtures.unheld rest;
           unshaken = moments.mixtures.unshaken rest;
           rest = still;
           amid =
               stays-amid m.state n.state m.ram n.ram was.agrees is.agrees parties placed size was.sound was.tables is.tables m.past n.past is.turn rest still
-              (moments.mixtures.each rest) all;
+              (moments.mixtures.each rest) (all-held moments rest);
         },
         subst (λ (n' : ℕ). RestIn n.ram n' n.state.tables (blocks_of n.state) n.past) (sym parties)
             (subst (λ (k : ℕ). RestIn n.ram (length m.state.parties) k (blocks_of n.state) n.past) (sym stand)

@@ -17,8 +17,9 @@ use Rattle.ffa_memshare.proofs.Moments.{stays-same, written-moment}
 use Rattle.ffa_physmem.specs.Moments.{IsBeside, IsReading, IsWriting, One, Only, Past, Step, TurnsIn}
 use Rattle.ffa_physmem.proofs.Moments.{Only-map, Only-none, Only-one, beside-same}
 use Rattle.ffa_rxtx.specs.Parts.{IsRxWriting}
+use Rattle.ffa_stage2.specs.Mixed.{AreMixed}
 use Rattle.ffa_stage2.specs.Moments.{EndsSettled, IsInOrder, IsMoment, WalksBetween, WalksSameIn, WritesUnreached}
-use Rattle.ffa_stage2.specs.Rest.{AreMixed, RestIn}
+use Rattle.ffa_stage2.specs.Rest.{RestIn}
 use Rattle.ffa_stage2.specs.Tables.{IsAside}
 use Rattle.ffa_stage2.proofs.Places.{not-both}
 use Rattle.ffa_stage2.proofs.Kept.{built-kept}

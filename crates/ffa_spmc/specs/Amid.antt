@@ -8,18 +8,16 @@ use Rattle.ffa_model.specs.State.{State}
 use Rattle.ffa_physmem.specs.Moments.{IsBeside, Only, Past, Step}
 use Rattle.ffa_stage2.specs.Amid.{Amid, AreTheirs, IsPage, Moment, behind, is_one_of}
 use Rattle.ffa_stage2.specs.Held.{HeldBetween}
-use Rattle.ffa_stage2.specs.Mixtures.{MixturesBetween}
 use Rattle.ffa_stage2.specs.Moments.{walk_at}
 use Rattle.ffa_stage2.specs.Rest.{AreAtRest}
 
--- An operation leads from one RAM to another. At a moment of it, memory differs from RAM to which nobody else writes in pages that
--- others wrote, and these are none of the tables', and some endpoint could write there before the operation, or can behind it. And
--- walks in mixtures, and what translation units may hold, are in memory what they are between the one RAM and the other.
+-- An operation leads from one RAM to another. At a moment of it, memory differs from RAM to which nobody else writes only in pages
+-- that others wrote. None of these is a page of a table, and to each some endpoint could write before the operation, or can after it.
+-- And what translation units may hold of memory lies between the one RAM and the other. The answers of walks in mixtures are among it.
 pub record StandsAmid (old new : Ram) (endpoints tables blocks : ℕ) (alone memory : Moment) (written : List ℕ) : Type 0 where
   pub theirs : AreTheirs old new endpoints tables blocks written
   pub beside : IsBeside alone.ram memory.ram (is_one_of written)
   pub bytes : (p : ℕ) → is_one_of written p ≡ true → IsPage (page_of memory.ram p)
-  pub walks : MixturesBetween old new endpoints tables blocks memory.history memory.ram
   pub held : HeldBetween old new endpoints tables blocks memory.history memory.ram
 
 -- and at its end each walk of memory gives what it gives in the other RAM, and its tables are at rest

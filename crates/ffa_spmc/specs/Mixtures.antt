@@ -2,13 +2,12 @@
 -- What walks in mixtures, and translation units that hold their answers until a page is settled (DDI 0487, C5.5), give while an
 -- operation is done: what they gave before it, or give behind it, or a translation fault. Pages are written only while neither
 -- leads there; and behind it the tables are at rest.
-use Rattle.std.specs.Prelude.{◌∷◌, List, length, Option}
+use Rattle.std.specs.Prelude.{List, length, Option}
 use Rattle.ffa_model.specs.Agreement.{blocks_of}
 use Rattle.ffa_model.specs.Ram.{Ram}
 use Rattle.ffa_model.specs.State.{State}
 use Rattle.ffa_physmem.specs.Moments.{Only, Past, Step}
-use Rattle.ffa_stage2.specs.Held.{HeldBetween, IsUnshaken, WritesUnheld}
-use Rattle.ffa_stage2.specs.Mixtures.{MixturesBetween}
+use Rattle.ffa_stage2.specs.Held.{IsUnshaken, WritesUnheld}
 use Rattle.ffa_stage2.specs.Rest.{RestIn}
 use Rattle.ffa_spmc.specs.Amid.{StaysAmid}
 
@@ -16,13 +15,11 @@ use Rattle.ffa_spmc.specs.Amid.{StaysAmid}
 unfoldable pub TablesRest : State → Ram → Past → Type 0
 TablesRest s ram past = RestIn ram (length s.parties) s.tables (blocks_of s) past
 
--- An operation led from one RAM and history to others: at each step, the walks of all endpoints in mixtures give what they gave
--- before it, or give behind it, or a translation fault; so do translation units; a page that is none of the tables' changes only while no
--- unit may hold a way there; and behind it the tables are at rest. No step disturbs an endpoint in a block to which its accesses stay.
--- So it is of memory while others write to it.
+-- An operation led from one RAM and history to others. A page that is none of the tables' changes only while no translation unit may
+-- hold a way there. No step disturbs an endpoint in a block to which its accesses stay. After the operation the tables are at rest.
+-- Whether others write to memory meanwhile or nobody does, what the units of all endpoints may hold lies between the two RAMs (`amid`).
+-- The answers of walks in mixtures are among it.
 pub record DoStayMixed (s : State) (old new : Ram) (past later : Past) : Type 0 where
-  pub walks : Only past later (λ h step. MixturesBetween old new (length s.parties) s.tables (blocks_of s) (step ∷ h) step.after)
-  pub held : Only past later (λ h step. HeldBetween old new (length s.parties) s.tables (blocks_of s) (step ∷ h) step.after)
   pub unheld : Only past later (λ h step. WritesUnheld old new (length s.parties) s.tables (blocks_of s) h step)
   pub unshaken : Only past later (λ h step. IsUnshaken old new (length s.parties) s.tables (blocks_of s) h step)
   pub rest : TablesRest s new later

@@ -6,8 +6,8 @@ use Rattle.ffa_model.specs.Agreement.{blocks_of}
 use Rattle.ffa_model.specs.Ram.{Ram}
 use Rattle.ffa_model.specs.State.{State}
 use Rattle.ffa_physmem.specs.Moments.{Only, Past, Step}
+use Rattle.ffa_stage2.specs.Mixed.{AreMixed}
 use Rattle.ffa_stage2.specs.Moments.{EndsSettled, IsInOrder, WalksBetween, WalksSameIn, WritesUnreached}
-use Rattle.ffa_stage2.specs.Rest.{AreMixed}
 
 -- Behind the step, and at every address, the walks of all endpoints' tables give what they gave in the old RAM or nothing, or all
 -- give what they give in the new one or nothing. A descriptor that changes goes by way of nothing where it has to. Where an endpoint's

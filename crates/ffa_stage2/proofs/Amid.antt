@@ -15,8 +15,9 @@ use Rattle.ffa_model.specs.Walk.{Answer, entry, from_level1, from_level2, from_l
 use Rattle.ffa_physmem.specs.Moments.{Adds, AreInTurn, IsBeside, Settles, Step}
 use Rattle.ffa_stage2.specs.Amid.{Amid, AreTheirs, Begun, CouldWrite, IsAmong, IsOthers, IsPage, MayWrite, Moment, Others, Own, before, behind, is_one_of}
 use Rattle.ffa_stage2.specs.Blocks.{block_word}
-use Rattle.ffa_stage2.specs.Held.{MayHold}
-use Rattle.ffa_stage2.specs.Mixtures.{IsMixture, MayRead, MixedBetween, MixturesBetween, page_at}
+use Rattle.ffa_stage2.specs.Held.{HeldBetween, MayHold}
+use Rattle.ffa_stage2.specs.Mixed.{MixedBetween, MixturesBetween}
+use Rattle.ffa_stage2.specs.Mixtures.{IsMixture, MayRead, page_at}
 use Rattle.ffa_stage2.specs.Moments.{walk_at}
 use Rattle.ffa_stage2.specs.Rest.{AreAtRest, IsAsIn, Reads}
 use Rattle.ffa_stage2.specs.Tables.{HasRoom, IsAside, KeepsTables, level1_place, level2_place, table_link, table_page}
@@ -161,12 +162,12 @@ Leads old new n tables b h ram =
 
 -- so it is of a step that follows on what is before it
 abbrev pub LeadsBehind : Ram → Ram → ℕ → ℕ → ℕ → List Step → Step → Type 0
-LeadsBehind old new n tables b h s = AreInTurn (s ∷ h) s.after × Leads old new n tables b (s ∷ h) s.after × MixturesBetween old new n tables b (s ∷ h) s.after
+LeadsBehind old new n tables b h s = AreInTurn (s ∷ h) s.after × Leads old new n tables b (s ∷ h) s.after × HeldBetween old new n tables b (s ∷ h) s.after
 
 settles-too : (e p : ℕ) (s x : Step) → x.settled ≡ s.settled → Settles e p s → Settles e p x
 settles-too e p s x same (its, is, whose, inside) = (its, same ∙ is, whose, inside)
 
-module _ (old new : Ram) (n tables b : ℕ) (g : List Step) (begun : (s : Step) × (earlier : List Step) × (g ≡ s ∷ earlier)) (turn : AreInTurn g old) (first : Leads old new n tables b g old) (at_rest : MixturesBetween old new n tables b g old)
+module _ (old new : Ram) (n tables b : ℕ) (g : List Step) (begun : (s : Step) × (earlier : List Step) × (g ≡ s ∷ earlier)) (turn : AreInTurn g old) (first : Leads old new n tables b g old) (at_rest : HeldBetween old new n tables b g old)
     (far : (e a : ℕ) (leaf : Leaf) → e < n → a < 2 ^ 32 → (walk_at old tables b e a ≡ Ok leaf) ⊎ (walk_at new tables b e a ≡ Ok leaf) → IsAside n tables b (page_at old leaf.phys)) where
   abbrev origin : Moment
   origin = record { history = g; ram = old }
@@ -177,7 +178,7 @@ module _ (old new : Ram) (n tables b : ℕ) (g : List Step) (begun : (s : Step) 
     pub some : (s : Step) × (earlier : List Step) × (memory.history ≡ s ∷ earlier)
     pub follow : AreInTurn memory.history memory.ram
     pub leads : Leads old new n tables b alone.history alone.ram
-    pub between : MixturesBetween old new n tables b alone.history alone.ram
+    pub between : HeldBetween old new n tables b alone.history alone.ram
     pub reads :
         (e p page i v : ℕ) → IsTablePage n tables b page → MayRead e p memory.history memory.ram page i v
         → MayRead e p alone.history alone.ram page i v
@@ -340,12 +341,12 @@ module _ (old new : Ram) (n tables b : ℕ) (g : List Step) (begun : (s : Step) 
   along-amid alone memory written (Others alone' p x earlier rest amid may others) adds =
       others-step alone p x earlier rest (along-amid alone (before x earlier) rest amid adds) may others
 
-  -- walks in mixtures of memory
-  pub between-amid : (alone memory : Moment) (written : List ℕ) → Along alone memory written → MixturesBetween old new n tables b memory.history memory.ram
-  between-amid alone memory written along a mixed ha each =
-      along.between a mixed ha (λ e he.
-      mixture-alone alone memory e (page_at alone.ram a) (mixed e) he along.beside.base along.beside.size along.reads
-      (subst (λ (c : ℕ). IsMixture tables b e ((a - c) / 4096) memory.history memory.ram (mixed e)) along.beside.base (each e he)))
+  -- what may be held of memory
+  pub held-amid : (alone memory : Moment) (written : List ℕ) → Along alone memory written → HeldBetween old new n tables b memory.history memory.ram
+  held-amid alone memory written along a answer ha each =
+      along.between a answer ha (λ e he.
+      along.holds e (page_at alone.ram a) a (answer e) he
+      (subst (λ (c : ℕ). MayHold tables b e ((a - c) / 4096) a memory.history memory.ram (answer e)) along.beside.base (each e he)))
 
   -- at the end of all steps memory has the tables of the other RAM, and they are at rest in it
   module _ (room : HasRoom new n tables b) (h : List Step) (memory : Moment) (written : List ℕ) (rest : AreAtRest new n tables b h) (along : Along (record { history = h; ram = new }) memory written) where
@@ -414,9 +415,25 @@ mixed-rest old new n tables b h room base rest =
     mixed-between old new old n tables b h room refl base (reads-more old.base n tables b h old (IsAsIn old tables b) (IsAsInEither old new tables b) (λ e k j he hk hj r its. inl its) rest.reads)
 
 -- at rest, of all endpoints at once
-pub mixtures-rest : (old new : Ram) (n tables b : ℕ) (h : List Step) → HasRoom old n tables b → AreAtRest old n tables b h → MixturesBetween old new n tables b h old
-mixtures-rest old new n tables b h room rest a mixed ha each = inl (λ e he. elim (mixed-rest old old n tables b h room refl rest e a (mixed e) he ha (each e he)) [
-  | inl is ↦ inl is
-  | inr (inl is) ↦ inl is
-  | inr (inr none) ↦ inr none
-])
+pub held-rest : (old new : Ram) (n tables b : ℕ) (h : List Step) → HasRoom old n tables b → AreAtRest old n tables b h → HeldBetween old new n tables b h old
+held-rest old new n tables b h room rest a answer ha each = inl (λ e he.
+    let (mixed, mix, is) = held-mixed tables b e (page_at old a) a h old (answer e) rest.turn (each e he) in
+    elim (mixed-rest old old n tables b h room refl rest e a mixed he ha mix) [
+      | inl same ↦ inl (is ∙ same)
+      | inr (inl same) ↦ inl (is ∙ same)
+      | inr (inr none) ↦ inr (is ∙ none)
+    ])
+
+-- what may be held is the answer of a walk in a mixture
+pub held-between : (old new ram : Ram) (n tables b : ℕ) (h : List Step) → AreInTurn h ram → MixturesBetween old new n tables b h ram → HeldBetween old new n tables b h ram
+held-between old new ram n tables b h turn between a answer ha held =
+    elim (between a (λ e. (pick e).0) ha (λ e he. ((pick e).1 he).0)) [
+      | inl each ↦ inl (λ e he. elim (each e he) [ inl is ↦ inl (((pick e).1 he).1 ∙ is) | inr none ↦ inr (((pick e).1 he).1 ∙ none) ])
+      | inr each ↦ inr (λ e he. elim (each e he) [ inl is ↦ inl (((pick e).1 he).1 ∙ is) | inr none ↦ inr (((pick e).1 he).1 ∙ none) ])
+    ]
+  where
+    pick : (e : ℕ) → (m : Ram) × (e < n → IsMixture tables b e (page_at ram a) h ram m × (answer e ≡ walk_at m tables b e a))
+    pick e = elim (cases_lt e n) [
+      | inl lt ↦ let (m, mix, is) = held-mixed tables b e (page_at ram a) a h ram (answer e) turn (held e lt) in (m, λ _. (mix, is))
+      | inr out ↦ (ram, λ lt. absurd (omega (arith, out, lt)))
+    ]

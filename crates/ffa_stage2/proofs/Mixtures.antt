@@ -15,7 +15,8 @@ use Rattle.ffa_model.specs.declared.rights.Rights.{Rights}
 use Rattle.ffa_model.proofs.Runs.{to-run}
 use Rattle.ffa_physmem.specs.Moments.{Settles, Step}
 use Rattle.ffa_stage2.specs.Blocks.{ArePages, IsEither, block_word}
-use Rattle.ffa_stage2.specs.Mixtures.{IsMixture, MayRead, MixedBetween, MixturesBetween, page_at}
+use Rattle.ffa_stage2.specs.Mixed.{MixedBetween, MixturesBetween}
+use Rattle.ffa_stage2.specs.Mixtures.{IsMixture, MayRead, page_at}
 use Rattle.ffa_stage2.specs.Moments.{IsInOrder, walk_at}
 use Rattle.ffa_stage2.specs.Orders.{IsBlockWrite, IsLeafWrite, IsOrdered}
 use Rattle.ffa_stage2.specs.Rest.{IsAsIn, Reads, ReadsBlock, ReadsTable}

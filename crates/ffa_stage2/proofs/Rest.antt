@@ -11,10 +11,11 @@ use Rattle.ffa_model.specs.declared.operation.FaultKind.TheVariants.{Translation
 use Rattle.ffa_physmem.specs.Moments.{Adds, AreInTurn, IsSettledBy, KeepsPages, Only, Past, Settles, StaysPlaced, Step, TurnsIn}
 use Rattle.ffa_physmem.proofs.Moments.{Only-along, Only-behind-all, Only-map, Only-none}
 use Rattle.ffa_stage2.specs.Held.{IsUnshaken, MayHold, WritesUnheld}
-use Rattle.ffa_stage2.specs.Mixtures.{IsMixture, MayRead, MixedBetween, page_at}
+use Rattle.ffa_stage2.specs.Mixed.{AreMixed, MixedBetween, WalksSameOrNone}
+use Rattle.ffa_stage2.specs.Mixtures.{IsMixture, MayRead, page_at}
 use Rattle.ffa_stage2.specs.Moments.{EndsSettled, IsBetween, IsMoment, IsUnchanged, walk_at}
 use Rattle.ffa_stage2.specs.Orders.{IsOrdered}
-use Rattle.ffa_stage2.specs.Rest.{AllSettled, AreAtRest, AreMixed, IsAsIn, IsWalked, Reads, ReadsBlock, ReadsTable, RestIn, WalksSameOrNone}
+use Rattle.ffa_stage2.specs.Rest.{AllSettled, AreAtRest, IsAsIn, IsWalked, Reads, ReadsBlock, ReadsTable, RestIn}
 use Rattle.ffa_stage2.specs.Tables.{HasRoom, IsBuilt, IsSameIn, IsStanding, WalksChange, is_in_pages, level2_place, table_page}
 use Rattle.ffa_stage2.proofs.Mixtures.{IsAsInEither, OneDiffers, may-kept, mixed-between, reads-behind, walk-mixed, walk-words}
 use Rattle.ffa_stage2.proofs.Moments.{ordered-aside, answer-none, answer-some}

@@ -3,6 +3,7 @@ pub mod Amid
 pub mod Blocks
 pub mod Held
 pub mod Layout
+pub mod Mixed
 pub mod Mixtures
 pub mod Moments
 pub mod Orders

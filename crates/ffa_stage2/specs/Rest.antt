@@ -1,15 +1,14 @@
 -- SPDX-License-Identifier: MIT OR Apache-2.0
 -- Tables at rest, between two operations: whatever values of their words walks may read, a walk gives what the RAM gives or a
 -- translation fault. So it is where each page was settled since a table changed (DDI 0487, C5.5), and so it stays.
-use Rattle.std.specs.Prelude.{◌≡◌, true, ℕ, ◌+◌, ◌*◌, ◌^◌, ◌<◌, ◌≤◌, ◌⊎◌, ◌==◌, is_ok, if◌then◌else◌, List, ◌∷◌, Option, Some, None}
+use Rattle.std.specs.Prelude.{◌≡◌, ℕ, ◌+◌, ◌*◌, ◌^◌, ◌<◌, ◌≤◌, ◌⊎◌, ◌==◌, if◌then◌else◌, List, ◌∷◌, Option, Some, None}
 use Rattle.ffa_model.specs.Descriptor.{page_word}
 use Rattle.ffa_model.specs.Ram.{Ram}
 use Rattle.ffa_model.specs.Walk.{mapped_answer}
 use Rattle.ffa_model.specs.declared.rights.Rights.{Rights}
-use Rattle.ffa_physmem.specs.Moments.{AreInTurn, IsSettledBy, Only, Past, Step}
+use Rattle.ffa_physmem.specs.Moments.{AreInTurn, IsSettledBy, Past, Step}
 use Rattle.ffa_stage2.specs.Blocks.{block_word}
-use Rattle.ffa_stage2.specs.Held.{IsUnshaken, WritesUnheld}
-use Rattle.ffa_stage2.specs.Mixtures.{MayRead, MixedBetween, MixturesBetween}
+use Rattle.ffa_stage2.specs.Mixtures.{MayRead}
 use Rattle.ffa_stage2.specs.Moments.{walk_at}
 use Rattle.ffa_stage2.specs.Tables.{level1_place, level2_place, table_link, table_page}
 
@@ -68,29 +67,3 @@ abbrev pub AllSettled : ℕ → ℕ → ℕ → Past → Type 0
 AllSettled endpoints tables blocks past =
     (h : List Step) → past.steps ≡ Some h
     → (e p : ℕ) → e < endpoints → p < 2 ^ 20 → IsSettledBy tables (table_page tables blocks endpoints 0) e p h
-
--- where the tables were at rest: at each step, the walks of all endpoints in mixtures give what they gave before all steps, or
--- what they give behind all, or a translation fault
-abbrev pub WalksMixed : Ram → Ram → ℕ → ℕ → ℕ → Past → Past → Type 0
-WalksMixed old new endpoints tables blocks past later =
-    RestIn old endpoints tables blocks past → Only past later (λ h s. MixturesBetween old new endpoints tables blocks (s ∷ h) s.after)
-
--- where an endpoint's walk leads somewhere in both of two RAMs, it gives the same in both
-abbrev pub WalksSameOrNone : Ram → Ram → ℕ → ℕ → ℕ → Type 0
-WalksSameOrNone old new endpoints tables blocks =
-    (e address : ℕ) → e < endpoints → address < 2 ^ 32 → is_ok (walk_at old tables blocks e address) ≡ true
-    → is_ok (walk_at new tables blocks e address) ≡ true
-    → walk_at new tables blocks e address ≡ walk_at old tables blocks e address
-
--- The same of each endpoint for itself. No step disturbs an endpoint in a block to which its accesses stay. Pages but those of tables
--- change only while no translation unit may hold a way there. And the tables are at rest again, where nobody got another right in the
--- place of one.
-pub record AreMixed (old new : Ram) (endpoints tables blocks : ℕ) (past later : Past) : Type 0 where
-  pub each :
-      RestIn old endpoints tables blocks past → Only past later (λ h s. MixedBetween old new endpoints tables blocks (s ∷ h) s.after)
-  pub unheld :
-      RestIn old endpoints tables blocks past → Only past later (λ h s. WritesUnheld old new endpoints tables blocks h s)
-  pub unshaken :
-      RestIn old endpoints tables blocks past → Only past later (λ h s. IsUnshaken old new endpoints tables blocks h s)
-  pub rest :
-      RestIn old endpoints tables blocks past → WalksSameOrNone old new endpoints tables blocks → RestIn new endpoints tables blocks later
