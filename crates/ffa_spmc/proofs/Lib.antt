@@ -44,7 +44,7 @@ pub mod Forgotten
 pub mod Unowned
 pub mod Sizes
 pub mod Chains
-pub mod Interleaved
+pub mod TxPages
 pub mod Moments
 pub mod Amid
 pub mod Mixtures

@@ -34,7 +34,7 @@ use Rattle.ffa_spmc.specs.Snapshot.{Snapshot, memory_in, snapshot_of}
 use Rattle.ffa_spmc.proofs.Amongs.{reading-done}
 use Rattle.ffa_spmc.proofs.Besides.{beside-access, beside-base, beside-both, beside-known, beside-placed, beside-size}
 use Rattle.ffa_spmc.proofs.HeldWalks.{walks-after}
-use Rattle.ffa_spmc.proofs.Interleaved.{front-kept, front-whole, read-in-front}
+use Rattle.ffa_spmc.proofs.TxPages.{front-kept, front-whole, read-in-front}
 use Rattle.ffa_spmc.proofs.Mixtures.{mixed-alike}
 use Rattle.ffa_spmc.proofs.Sizes.{pages-step}
 

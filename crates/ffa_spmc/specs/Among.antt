@@ -1,7 +1,7 @@
 -- SPDX-License-Identifier: MIT OR Apache-2.0
 -- An operation while other processors of its runner write to the runner's TX: which of its first bytes it reads, and that it
 -- does what an operation does that finds there what one reading of these gave.
-use Rattle.std.specs.Prelude.{◌≡◌, ℕ, ◌==◌, ◌||◌, Bool, true, false, List, [], ◌∷◌, Option, Some, None, if◌then◌else◌}
+use Rattle.std.specs.Prelude.{◌≡◌, ℕ, ◌==◌, ◌||◌, Bool, true, false, [], ◌∷◌, Option, Some, None, if◌then◌else◌}
 use Rattle.std.specs.List.{list_any}
 use Rattle.std.specs.Option.{option_and_then}
 use Rattle.ffa_model.specs.declared.function.TheConstants.{FFA_MEM_DONATE, FFA_MEM_LEND, FFA_MEM_RELINQUISH, FFA_MEM_RETRIEVE_REQ, FFA_MEM_SHARE, FFA_MSG_SEND2}
@@ -88,22 +88,7 @@ abbrev pub IsDoneReading : Option Run → Snapshot → Op → Outcome → Snapsh
 IsDoneReading None old op told new = IsDone old op told new
 IsDoneReading (Some run) old op told new = IsDoneAmong run old op told new
 
--- the pages of a run, if there is one
-abbrev pub are_in : Option Run → ℕ → Bool
-are_in None p = false
-are_in (Some run) p = is_in run p
-
 -- An operation was done while nobody else wrote: it had the outcome of the small machine, and left exactly its state.
 pub record IsDoneAlone (old : State) (op : Op) (told : Outcome) (new : State) : Type 0 where
   pub outcome : told ≡ (step old op).outcome
   pub state : new ≡ (step old op).state
-
--- so were operations that were done one after another, each with one of the outcomes, and each left exactly the small machine's
--- state where nobody else wrote
-abbrev pub AreDoneReading : Bool → Snapshot → List Op → List Outcome → Snapshot → Type 0
-AreDoneReading alone old [] told new = (told ≡ []) × (new ≡ old)
-AreDoneReading alone old (op ∷ ops) told new =
-    (next : Snapshot) × (outcome : Outcome) × (rest : List Outcome)
-    × (told ≡ outcome ∷ rest) × IsDoneReading (pages_read old.state op) old op outcome next
-    × (alone ≡ true → IsDoneAlone old.state op outcome next.state)
-    × AreDoneReading alone next ops rest new

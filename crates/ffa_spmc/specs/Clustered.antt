@@ -1,21 +1,22 @@
 -- SPDX-License-Identifier: MIT OR Apache-2.0
--- What a contract sees of a machine that several processors run, and what an operation of one of them comes to.
-use Rattle.std.specs.Prelude.{◌≡◌, ℕ, Bool, true, false, nat_lt, List, [], ◌∷◌, ◌++◌, Option, Some, None, refl, if◌then◌else◌}
-use Rattle.std.specs.List.{list_all}
+-- What a contract sees of a machine that several processors run, what an operation of one of them comes to, and what a list of acts does.
+use Rattle.std.specs.Prelude.{◌≡◌, ℕ, Bool, true, false, List, [], ◌∷◌, ◌++◌, Option, Some, None, refl, if◌then◌else◌}
 use Rattle.std.specs.Coded.{Coded, code_by, coded×, coded_ℕ, coded_list}
-use Rattle.ffa_model.specs.declared.limits.TheConstants.{MOST_PROCESSORS}
 use Rattle.ffa_model.specs.declared.operation.Act.{Act}
 use Rattle.ffa_model.specs.declared.operation.Act.TheVariants.{Operate, Interrupt}
 use Rattle.ffa_model.specs.declared.operation.Effect.{Effect}
 use Rattle.ffa_model.specs.declared.operation.Effect.TheVariants.{Outcome, Resumed}
 use Rattle.ffa_model.specs.declared.operation.Op.{Op}
 use Rattle.ffa_model.specs.declared.schedule.Status.TheVariants.{Blocked}
-use Rattle.ffa_model.specs.Processors.{Processors, Shared, acted_on, effects_on, interrupt, on, resumed_by, shared_after, shared_after_all, turned, with_switch}
+use Rattle.ffa_model.specs.Processors.{Processors, Shared, acted_on, effects_on, interrupt, on, resumed_by, shared_after, shared_after_all, state_on, turned, with_switch}
+use Rattle.ffa_model.specs.SoundState.{IsSoundState}
 use Rattle.ffa_model.specs.State.{State}
+use Rattle.ffa_model.specs.Step.{step}
 use Rattle.ffa_laws.specs.Isolation.{NeverGrow}
 use Rattle.ffa_laws.specs.ProcessorRuns.{Acts, IsolatedOn, Turn, as_turns, as_writes, turns_after}
+use Rattle.ffa_laws.specs.Reads.{AreBeside}
 use Rattle.ffa_laws.specs.Stores.{AreStores, AreWritten}
-use Rattle.ffa_spmc.specs.Among.{IsDoneAlone, IsDoneReading, pages_read}
+use Rattle.ffa_spmc.specs.Among.{IsDoneAlone, IsDoneReading, is_in, pages_read}
 use Rattle.ffa_spmc.specs.Snapshot.{Snapshot, coded_snapshot}
 use Rattle.ffa_spmc.specs.declared.run.Run.{Run}
 
@@ -55,45 +56,51 @@ abbrev pub IsEffectedAlone : State → Op → Effect → State → Type 0
 IsEffectedAlone old op (Outcome outcome) new = IsDoneAlone old op outcome new
 IsEffectedAlone old op (Resumed e) new = new ≡ with_switch old Blocked e.0
 
--- An act in the machine as its processor sees it: an operation is done so, and an interrupt changes the run states alone.
-abbrev pub IsActed : Bool → Snapshot → Act → Effect → Snapshot → Type 0
-IsActed shared old (Operate op) effect new = IsEffected shared old op effect new
-IsActed shared old Interrupt effect new =
-    (effect ≡ Outcome (interrupt old.state).outcome) × (new ≡ in_state old (interrupt old.state).state)
+-- OF THE STATE ALONE
+
+-- If there is a run, its pages were read at once, or are no longer as they were read. They alone may have other bytes then.
+abbrev pub IsSeen : Option Run → State → State → Type 0
+IsSeen None s t = t ≡ s
+IsSeen (Some run) s t = AreBeside s t (is_in run) × IsSoundState t
+
+-- What `Cluster::op` promises of the state (`act_in_turn`: `served`). Pages of TX are seen at once, and the operation is a step of the
+-- state with these bytes. Only after it the pages have the bytes that others wrote. Or a preempted partition goes on, and only run states change.
+abbrev pub IsServed : Bool → State → Op → Effect → State → Type 0
+IsServed shared old op (Outcome outcome) new =
+    (seen : State) × (resumed_by old op ≡ None) × IsSeen (pages_observed shared old op) old seen
+    × (outcome ≡ (step seen op).outcome) × IsSeen (pages_observed shared old op) (step seen op).state new
+IsServed shared old op (Resumed e) new = (resumed_by old op ≡ Some e.0) × (new ≡ with_switch old Blocked e.0)
+
+-- An act in the state as its processor sees it: an operation is served, and an interrupt changes the run states alone.
+abbrev pub IsActed : Bool → State → Act → Effect → State → Type 0
+IsActed shared old (Operate op) effect new = IsServed shared old op effect new
+IsActed shared old Interrupt effect new = (effect ≡ Outcome (interrupt old).outcome) × (new ≡ (interrupt old).state)
 
 -- an act of processor p, which is selected first
-pub record IsActedOn (shared : Bool) (old : Clustered) (p : ℕ) (act : Act) (effect : Effect) (new : Clustered) : Type 0 where
-  pub acted : IsActed shared (seen_by p old) act effect new.machine
-  pub processors : new.processors ≡ turned old.processors p old.machine.state
+pub record IsActedOn (shared : Bool) (old : Shared) (p : ℕ) (act : Act) (effect : Effect) (new : Shared) : Type 0 where
+  pub acted : IsActed shared (state_on old p) act effect new.state
+  pub processors : new.processors ≡ turned old.processors p old.state
 
 -- between acts nobody writes, or others write into any pages to which they may
-abbrev pub IsBetween : Bool → Clustered → Clustered → Type 0
+abbrev pub IsBetween : Bool → Shared → Shared → Type 0
 IsBetween false old new = new ≡ old
-IsBetween true old new = (new.processors ≡ old.processors) × AreWritten old.machine.state new.machine.state
+IsBetween true old new = (new.processors ≡ old.processors) × AreWritten old.state new.state
 
 -- acts that are done one after another, each of the processor beside it, and nothing else between them
-abbrev pub AreActed : Bool → Clustered → List (ℕ × Act) → List Effect → Clustered → Type 0
+abbrev pub AreActed : Bool → Shared → List (ℕ × Act) → List Effect → Shared → Type 0
 AreActed shared old [] told new = (told ≡ []) × IsBetween shared old new
 AreActed shared old (x ∷ xs) told new =
-    (begun next : Clustered) × (effect : Effect) × (rest : List Effect)
+    (begun next : Shared) × (effect : Effect) × (rest : List Effect)
     × IsBetween shared old begun × (told ≡ effect ∷ rest)
     × IsActedOn shared begun x.0 x.1 effect next × AreActed shared next xs rest new
 
--- there are these processors
-abbrev pub are_processors : List (ℕ × Act) → Bool
-are_processors xs = list_all (λ (x : ℕ × Act). nat_lt x.0 MOST_PROCESSORS) xs
-
--- without the RAM, and what is held and told
-abbrev pub shared_by : Clustered → Shared
-shared_by c = record { processors = c.processors; state = c.machine.state }
-
 -- acts had these effects and led to this machine, as the definitions say of the list; each endpoint sees of them what isolation
 -- says, and no right grew
-pub record IsRunOfActs (old : Clustered) (acts : List (ℕ × Act)) (told : List Effect) (new : Clustered) : Type 0 where
-  pub effects : told ≡ effects_on (shared_by old) acts
-  pub state : shared_by new ≡ shared_after_all (shared_by old) acts
-  pub isolated : IsolatedOn (shared_by old) (as_turns acts)
-  pub never_grow : NeverGrow old.machine.state new.machine.state
+pub record IsRunOfActs (old : Shared) (acts : List (ℕ × Act)) (told : List Effect) (new : Shared) : Type 0 where
+  pub effects : told ≡ effects_on old acts
+  pub state : new ≡ shared_after_all old acts
+  pub isolated : IsolatedOn old (as_turns acts)
+  pub never_grow : NeverGrow old.state new.state
 
 -- WHILE OTHERS WRITE
 
@@ -107,9 +114,9 @@ AreAmongWrites m (x ∷ xs) told turns =
     × AreAmongWrites (shared_after (turns_after m (as_writes before)) x) xs later rest
 
 -- acts led from one machine to another as such a list does, of which each endpoint sees what isolation says, and no right grew
-pub record IsRunOfTurns (old : Clustered) (acts : List (ℕ × Act)) (told : List Effect) (new : Clustered) : Type 0 where
+pub record IsRunOfTurns (old : Shared) (acts : List (ℕ × Act)) (told : List Effect) (new : Shared) : Type 0 where
   pub turns : List Turn
-  pub among : AreAmongWrites (shared_by old) acts told turns
-  pub state : turns_after (shared_by old) turns ≡ shared_by new
-  pub isolated : IsolatedOn (shared_by old) turns
-  pub never_grow : NeverGrow old.machine.state new.machine.state
+  pub among : AreAmongWrites old acts told turns
+  pub state : turns_after old turns ≡ new
+  pub isolated : IsolatedOn old turns
+  pub never_grow : NeverGrow old.state new.state

@@ -19,7 +19,6 @@ pub mod Readied
 pub mod Unowned
 pub mod Operated
 pub mod Among
-pub mod Interleaved
 pub mod Amid
 pub mod Mixtures
 pub mod Moments

@@ -7,12 +7,11 @@ ghost use Rattle.ffa_model.specs.declared.operation.Effect.{Effect};
 ghost use Rattle.ffa_model.specs.declared.operation.Op.{Op};
 ghost use Rattle.ffa_model.specs.declared.operation.Outcome.{Outcome};
 ghost use Rattle.ffa_model.specs.Agreement.{Agrees};
-ghost use Rattle.ffa_model.specs.Processors.{ArePlaced};
+ghost use Rattle.ffa_model.specs.Processors.{Shared, are_there};
 ghost use Rattle.ffa_model.specs.SoundState.{IsSoundState};
 ghost use Rattle.ffa_laws.specs.Isolation.{NeverGrow};
-ghost use Rattle.ffa_spmc.specs.Among.{AreDoneReading};
-ghost use Rattle.ffa_spmc.specs.Clustered.{AreActed, Clustered, IsRunOfActs, IsRunOfTurns, are_processors};
-ghost use Rattle.ffa_spmc.specs.Interleaved.{AreDoneBetween, IsInterleaved, IsRunOfAll};
+ghost use Rattle.ffa_laws.specs.ProcessorRuns.{IsSoundShared};
+ghost use Rattle.ffa_spmc.specs.Clustered.{AreActed, IsEffected, IsRunOfActs, IsRunOfTurns, IsServed};
 ghost use Rattle.ffa_spmc.specs.Meanwhile.{AreDoneAmid, LeavesAmid};
 ghost use Rattle.ffa_spmc.specs.Operated.{IsOperated};
 ghost use Rattle.ffa_spmc.specs.Snapshot.{Snapshot};
@@ -27,27 +26,20 @@ pub fn left_among_others()
     // A list of operations, between which others write too: the state stays sound, and rights never grow.
     ensures list { (old : Snapshot) (ops : List Op) (told : List Outcome) (new : Snapshot) → IsSoundState old.state
         → AreDoneAmid old ops told new → IsSoundState new.state × NeverGrow old.state new.state }
-    // Where others write to the runner's TX while operations are done, the operations are a list of operations of endpoints. What
-    // others write are stores of the runner before and after each: isolated, with rights that never grow.
-    ensures interleaved { (alone : Bool) (old : Snapshot) (ops : List Op) (told : List Outcome) (new : Snapshot)
-        → IsSoundState old.state → AreDoneReading alone old ops told new → IsInterleaved old.state ops told new.state }
-    // Where others write to the runner's TX while operations are done, and between them into whatever they may, all is a list of
-    // operations of endpoints, what others write being stores: isolated, with rights that never grow.
-    ensures isolated { (old : Snapshot) (ops : List Op) (told : List Outcome) (new : Snapshot) → IsSoundState old.state
-        → AreDoneBetween old ops told new → IsRunOfAll old.state ops told new.state }
 {}
 
 /// Operations and interrupts of several processors are done one after another, each as `Cluster::select`, and then `Cluster::op` or
-/// `Cluster::interrupt` promise it. What an endpoint sees, and its view afterwards, are the same from every state that it sees
-/// alike, with every list in which it does the same and learns the same. Rights never grow.
+/// `Cluster::interrupt` promise it of the state. What an endpoint sees, and its view afterwards, are the same from every state that it
+/// sees alike, with every list in which it does the same and learns the same. Rights never grow.
 pub fn act_in_turn()
+    // What `Cluster::op` promises of the machine has this in it of the state, and lists need no more.
+    ensures served { (shared : Bool) (old new : Snapshot) (op : Op) (effect : Effect) → IsEffected shared old op effect new
+        → IsServed shared old.state op effect new.state }
     // In RAM to which nobody else writes they have the effects and leave the state that the definitions give for the list.
-    ensures alone { (old : Clustered) (acts : List (ℕ × Act)) (told : List Effect) (new : Clustered)
-        → IsSoundState old.machine.state → ArePlaced old.processors old.machine.state → are_processors acts ≡ true
-        → AreActed false old acts told new → IsRunOfActs old acts told new }
+    ensures alone { (old : Shared) (acts : List (ℕ × Act)) (told : List Effect) (new : Shared) → IsSoundShared old
+        → are_there old acts ≡ true → AreActed false old acts told new → IsRunOfActs old acts told new }
     // Where others write to the TX of whoever acts, and between acts into whatever they may, what they write are stores of endpoints
     // between the acts.
-    ensures among { (shared : Bool) (old : Clustered) (acts : List (ℕ × Act)) (told : List Effect) (new : Clustered)
-        → IsSoundState old.machine.state → ArePlaced old.processors old.machine.state → are_processors acts ≡ true
-        → AreActed shared old acts told new → IsRunOfTurns old acts told new }
+    ensures among { (shared : Bool) (old : Shared) (acts : List (ℕ × Act)) (told : List Effect) (new : Shared) → IsSoundShared old
+        → are_there old acts ≡ true → AreActed shared old acts told new → IsRunOfTurns old acts told new }
 {}
