@@ -6,11 +6,17 @@ use Rattle.ffa_model.specs.declared.operation.Op.{Op}
 use Rattle.ffa_model.specs.declared.operation.Op.TheVariants.{Call}
 use Rattle.ffa_model.specs.declared.operation.Outcome.{Outcome}
 use Rattle.ffa_model.specs.Access.{access}
+use Rattle.ffa_model.specs.OneChain.{IsSimple}
 use Rattle.ffa_model.specs.Refusals.{is_refusal}
+use Rattle.ffa_model.specs.RunStates.{schedule_of}
 use Rattle.ffa_model.specs.State.{State, is_known}
 use Rattle.ffa_model.specs.Step.{step}
 use Rattle.ffa_laws.specs.OwnAccess.{is_call, is_memory_call}
 use Rattle.ffa_laws.proofs.Kept.{base-step, known-step}
+use Rattle.ffa_laws.proofs.OwnAccesses.{own_access}
+use Rattle.ffa_laws.proofs.Simple.{stays_simple}
+use Rattle.ffa_laws.proofs.SoundSteady.{sound-steady}
+use Rattle.ffa_laws.proofs.Worlds.{worlds_apart}
 use Rattle.ffa_memshare.specs.declared.changed.Changed.{Changed}
 use Rattle.ffa_tlb.specs.Lookups.{lookup}
 use Rattle.std.specs.Option.{option_or}
@@ -20,22 +26,19 @@ use Rattle.ffa_spmc.specs.Caching.{IsForgotten}
 use Rattle.ffa_spmc.specs.Machines.{IsMachine, IsManaged, managed_in}
 use Rattle.ffa_spmc.specs.Mixtures.{StayMixed, TablesRest}
 use Rattle.ffa_spmc.specs.Moments.{AreMoments}
-use Rattle.ffa_spmc.specs.Operated.{HasLaws, IsDone}
+use Rattle.ffa_spmc.specs.Operated.{IsDone}
 use Rattle.ffa_spmc.specs.Snapshot.{Snapshot}
 use Rattle.ffa_spmc.specs.Unowned.{KeepsUnowned}
 use Rattle.ffa_physmem.proofs.Moments.{Only-map}
 use Rattle.ffa_spmc.proofs.Forgotten.{gone, gone-or-held, same-held, still-held}
 use Rattle.ffa_spmc.proofs.HeldWalks.{walks-after}
-use Rattle.ffa_spmc.proofs.Laws.{has-laws}
 use Rattle.ffa_spmc.proofs.Mixtures.{op-mixed}
 
 module _ (old new : Snapshot) (op : Op) (was : IsMachine old) (is : IsManaged (managed_in new))
     (state : new.state ≡ (step old.state op).state) (moments : AreMoments old.state old.ram new.ram old.past new.past) where
-  laws : HasLaws old.state op
-  laws = has-laws old.state was.managed.sound was.managed.apart op
-
   mixed : StayMixed old.state old.ram new.ram old.past new.past × TablesRest new.state new.ram new.past
-  mixed = op-mixed (managed_in old) (managed_in new) op was.managed is state laws.own_access moments was.rest
+  mixed = op-mixed (managed_in old) (managed_in new) op was.managed is state
+      (own_access old.state op (sound-steady old.state was.managed.sound) was.managed.apart) moments was.rest
 
   pub known-after : (e : ℕ) → is_known old.state e ≡ true → is_known new.state e ≡ true
   known-after e known = subst (λ (s : State). is_known s e ≡ true) (sym state) (known-step old.state op e known)
@@ -69,8 +72,12 @@ module _ (old new : Snapshot) (op : Op) (was : IsMachine old) (is : IsManaged (m
       others = others;
       telling = telling;
     };
+    was_sound = was.managed.sound;
+    was_apart = was.managed.apart;
     sound = is.sound;
-    laws = laws;
+    apart = is.apart;
+    worlds = worlds_apart new.state is.sound;
+    one_chain = λ simple. subst (λ (s : State). IsSimple (schedule_of s)) (sym state) (stays_simple old.state op simple);
   }
 
 -- A CALL, after which the cache forgot the pages to which access changed

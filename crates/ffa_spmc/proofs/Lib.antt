@@ -35,7 +35,6 @@ pub mod Relinquishes
 pub mod Donations
 pub mod Retrieves
 pub mod Offers
-pub mod Laws
 pub mod Notified
 pub mod HeldWalks
 pub mod CachedAccesses

@@ -8,15 +8,8 @@ use Rattle.ffa_model.specs.OneChain.{IsSimple}
 use Rattle.ffa_model.specs.Refusals.{is_refusal}
 use Rattle.ffa_model.specs.RunStates.{schedule_of}
 use Rattle.ffa_model.specs.SoundState.{IsSoundState}
-use Rattle.ffa_model.specs.State.{State}
 use Rattle.ffa_model.specs.Step.{step}
-use Rattle.ffa_laws.specs.Isolation.{Integrity, NeverGrow, OneStep}
-use Rattle.ffa_laws.specs.Loans.{OfferSaysNothing}
-use Rattle.ffa_laws.specs.OwnAccess.{AreWorldsApart, OwnAccess}
-use Rattle.ffa_laws.specs.Readable.{Confidential}
-use Rattle.ffa_laws.specs.Reads.{ReadsNoMore}
-use Rattle.ffa_laws.specs.Silence.{Silence}
-use Rattle.ffa_laws.specs.Writers.{OnlyWriters}
+use Rattle.ffa_laws.specs.OwnAccess.{AreApart, AreWorldsApart}
 use Rattle.ffa_physmem.specs.Moments.{Only}
 use Rattle.ffa_stage2.specs.Moments.{IsInOrder, WalksSameIn}
 use Rattle.ffa_spmc.specs.AccessChange.{IsTelling}
@@ -55,43 +48,19 @@ pub record IsOperated (old : Snapshot) (op : Op) (new : Snapshot) : Type 0 where
   -- all but calls on memory.
   pub telling : IsTelling op old.state new.state old.told new.told
 
--- what the definitions promise of each operation, from a sound state in which nobody is offered what it sent itself
-pub record HasLaws (s : State) (op : Op) : Type 0 where
-  -- What another endpoint learns is in its events, what the runner sees depends on its view alone, and a page that its owner has
-  -- alone is safe from others.
-  pub one_step : OneStep s op
-  pub integrity : Integrity s op
-  -- An operation gives only the events of its row, and only some calls change the public part. What is told to another endpoint
-  -- changes its view, except for messages, and for bytes, zeros and pending bits, which may be told again: these are about a page,
-  -- a transaction, or buffers or bitmaps of its own that stand in its view. All that an event says, except for a message, goes into
-  -- the view.
-  pub silence : Silence s op
-  -- From another state in which the runner can read the same, the operation has the same outcome, and the runner can read the same
-  -- after it, if the same is revealed to it; or if the operation neither retrieves nor reclaims. What another endpoint can read
-  -- changes by what it is told readably alone. Events tell more: bytes too that it can't read.
-  pub confidential : Confidential s op
-  -- Rights don't grow, and nobody's access changes but the runner's. A page's bytes change only where the runner may write to it
-  -- before, or reclaims it and may write to it then, or where an indirect message fills its receiver's RX.
-  pub never_grow : NeverGrow s (step s op).state
-  pub own_access : OwnAccess s op
-  pub only_writers : OnlyWriters s op
-  -- Where worlds are told apart, the normal world reaches no page after it that is not of non-secure memory.
-  pub worlds : AreWorldsApart (step s op).state
-  -- Where it opens a transaction, the bytes of the pages make no difference to a receiver while the transaction is open and the
-  -- receiver doesn't hold it.
-  pub silent_offers : OfferSaysNothing s op
-  -- From another sound state, with other bytes that it doesn't read, it has the same outcome, and leaves a state with other bytes in
-  -- the same pages at most.
-  pub reads_no_more : ReadsNoMore s op
-  -- Where no partition was preempted or runs elsewhere, none is so after it: the run states stay one chain.
-  pub one_chain : IsSimple (schedule_of s) → IsSimple (schedule_of (step s op).state)
-
--- An operation was done, with this outcome, which is that of the small machine, and the state stays sound.
+-- An operation was done, with this outcome, which is that of the small machine. The laws of `ffa_laws` hold of it, and of the next one.
 pub record IsDone (old : Snapshot) (op : Op) (told : Outcome) (new : Snapshot) : Type 0 where
   pub outcome : told ≡ (step old.state op).outcome
   pub operated : IsOperated old op new
+  -- The state was sound and stays so, and nobody is offered what it has sent itself.
+  pub was_sound : IsSoundState old.state
+  pub was_apart : AreApart old.state
   pub sound : IsSoundState new.state
-  pub laws : HasLaws old.state op
+  pub apart : AreApart new.state
+  -- Where worlds are told apart, the normal world reaches no page after it that is not of non-secure memory.
+  pub worlds : AreWorldsApart new.state
+  -- Where no partition was preempted or runs elsewhere, none is so after it: the run states stay one chain.
+  pub one_chain : IsSimple (schedule_of old.state) → IsSimple (schedule_of new.state)
 
 -- operations that are done one after another, and nothing between them
 abbrev pub AreOperated : Snapshot → List Op → Snapshot → Type 0
