@@ -34,7 +34,8 @@ use Rattle.ffa_model.specs.Transactions.{next_handle, open_of, scene_of}
 use Rattle.ffa_model.proofs.Guards.{guard-passes}
 use Rattle.ffa_laws.specs.Steady.{IsSteady}
 use Rattle.ffa_laws.specs.Events.{Event, Filled, Item, Own, Pending, Told, call_events, events, items, public_change, where_passed, where_true}
-use Rattle.ffa_laws.specs.Isolation.{fills_rx_page, is_indirect_message, is_rx, is_send2}
+use Rattle.ffa_laws.specs.Isolation.{fills_rx_page, is_rx, is_send2}
+use Rattle.ffa_laws.specs.OwnAccess.{is_call}
 use Rattle.ffa_laws.specs.RunIntegrity.{RunIntegrity, is_quiet}
 use Rattle.ffa_laws.proofs.Form.{accessed-kept, served-kept}
 use Rattle.ffa_laws.proofs.Holders.{handle_at-reheld}
@@ -130,7 +131,7 @@ filled-rx e s p fills =
     let known = guard-passes guards 4 (sym (passed (first_failure guards) none)) in
     (ap (is_known s) (sym (eqb-true (header_in (tx_bytes s s.runner)).receiver e receiver)) ∙ known, rx)
 
-not_filled : (e : ℕ) (s : State) (p : ℕ) (rx : Bool) (op : Op) → (is_known s e ≡ true → is_rx s e p ≡ true → rx ≡ true) → are_quiet_events rx (events e s op) ≡ true → (is_indirect_message op && fills_rx_page s e p) ≡ false
+not_filled : (e : ℕ) (s : State) (p : ℕ) (rx : Bool) (op : Op) → (is_known s e ≡ true → is_rx s e p ≡ true → rx ≡ true) → are_quiet_events rx (events e s op) ≡ true → (is_call is_send2 op && fills_rx_page s e p) ≡ false
 not_filled e s p rx (Call x) its quiet = elim (cases_Bool (is_send2 (decode x) && fills_rx_page s e p)) [
   | inl both ↦
       let (is, fills) = and_parts (is_send2 (decode x)) (fills_rx_page s e p) both in

@@ -18,14 +18,14 @@ use Rattle.ffa_model.specs.Step.{step}
 use Rattle.ffa_model.proofs.CallAccesses.{access-written}
 use Rattle.ffa_laws.specs.Steady.{IsSteady}
 use Rattle.ffa_laws.specs.View.{view}
-use Rattle.ffa_laws.specs.Elsewhere.{ConfidentialAs, IntegrityAs, OneStepAs, OnlyWritersAs, OwnAccessAs, SilenceAs, events_elsewhere}
+use Rattle.ffa_laws.specs.Elsewhere.{by, events_elsewhere}
 use Rattle.ffa_laws.specs.Events.{Event, Wrote, apply_all, events, where_passed, where_true}
 use Rattle.ffa_laws.specs.Public.{public_part}
-use Rattle.ffa_laws.specs.Isolation.{NeverGrow, fills_rx_page, is_indirect_message}
-use Rattle.ffa_laws.specs.OwnAccess.{AreApart, IsSameOrNone, is_call}
-use Rattle.ffa_laws.specs.Readable.{all_readably, is_unreadable, readable, revealed}
-use Rattle.ffa_laws.specs.Silence.{AreBare, AreMet, AreNews, may_be_told, may_change_public}
-use Rattle.ffa_laws.specs.Writers.{is_filled_by, is_reclaimed_by}
+use Rattle.ffa_laws.specs.Isolation.{Integrity, NeverGrow, OneStep, fills_rx_page, is_send2}
+use Rattle.ffa_laws.specs.OwnAccess.{AreApart, IsSameOrNone, OwnAccess, gives_access, is_call, takes_access}
+use Rattle.ffa_laws.specs.Readable.{Confidential, all_readably, is_unreadable, readable, revealed}
+use Rattle.ffa_laws.specs.Silence.{AreBare, AreMet, AreNews, Silence, may_be_told, may_change_public}
+use Rattle.ffa_laws.specs.Writers.{OnlyWriters, is_reclaim}
 use Rattle.ffa_laws.proofs.Bare.{bare-store}
 use Rattle.ffa_laws.proofs.Form.{accessed-kept, viewed}
 use Rattle.ffa_laws.proofs.Growth.{never_grow, step_never_grows}
@@ -299,7 +299,7 @@ by_runner s e P runs rests = elim (s.runner == e) as (λ b. (s.runner == e) ≡ 
   | false ↦ λ is. rests (λ same. true≢false (sym (eq-eqb s.runner e same) ∙ is))
 ] refl
 
-pub one_step_as : (s : State) (e : ℕ) (op : Op) → IsSteady s → is_known s e ≡ true → OneStepAs s e op
+pub one_step_as : (s : State) (e : ℕ) (op : Op) → IsSteady s → is_known s e ≡ true → OneStep (by e op) s
 one_step_as s e op steady known =
     record {
       others = λ f there differ.
@@ -329,57 +329,63 @@ pub never_grows_as : (s : State) (e : ℕ) (op : Op) → IsSteady s → is_known
 never_grows_as s e op steady known =
     by_runner s e (λ b. NeverGrow s (stepped s e op b).state) (λ runs. step_never_grows s op steady) (λ rests. grows-elsewhere s e steady known op)
 
-pub integrity_as : (s : State) (e : ℕ) (op : Op) → IsSteady s → is_known s e ≡ true → IntegrityAs s e op
+pub integrity_as : (s : State) (e : ℕ) (op : Op) → IsSteady s → is_known s e ≡ true → Integrity (by e op) s
 integrity_as s e op steady known f p owned unnamed differ =
-    by_runner s e (λ b. (b && is_indirect_message op && fills_rx_page s f p) ≡ false → page_bytes (stepped s e op b).state p ≡ page_bytes s p)
-    (λ runs. integrity s op steady f p owned unnamed (λ same. differ (sym runs ∙ same)))
+    by_runner s e (λ b. ((b && is_call is_send2 op) && fills_rx_page (as_run_by e s) f p) ≡ false → page_bytes (stepped s e op b).state p ≡ page_bytes s p)
+    (λ runs none. integrity s op steady f p owned unnamed (λ same. differ (sym runs ∙ same))
+    (subst (λ g. (is_call is_send2 op && fills_rx_page (as_run_by g s) f p) ≡ false) (sym runs) none))
     (λ rests none. alone-elsewhere s e steady known op f p owned unnamed differ)
 
-pub own_access_as : (s : State) (e : ℕ) (op : Op) → IsSteady s → AreApart s → OwnAccessAs s e op
+pub own_access_as : (s : State) (e : ℕ) (op : Op) → IsSteady s → AreApart s → OwnAccess (by e op) s
 own_access_as s e op steady apart =
     record {
-      elsewhere = λ rests f p.
-          by_runner s e (λ b. access (stepped s e op b).state f p ≡ access s f p) (λ runs. absurd (rests runs)) (λ rests. access-elsewhere s e op f p);
       others = λ f p differ.
           by_runner s e (λ b. access (stepped s e op b).state f p ≡ access s f p)
           (λ runs. (own_access s op steady apart).others f p (λ same. differ (sym runs ∙ same)))
           (λ rests. access-elsewhere s e op f p);
-      grows = λ p none.
-          by_runner s e (λ b. is_within (access (stepped s e op b).state e p) (access s e p) ≡ true)
-          (λ runs. subst (λ f. is_within (access (step s op).state f p) (access s f p) ≡ true) runs ((own_access s op steady apart).grows p none))
-          (λ rests. same-within _ _ (access-elsewhere s e op e p));
-      shrinks = λ p none.
-          by_runner s e (λ b. is_within (access s e p) (access (stepped s e op b).state e p) ≡ true)
-          (λ runs. subst (λ f. is_within (access s f p) (access (step s op).state f p) ≡ true) runs ((own_access s op steady apart).shrinks p none))
-          (λ rests. same-within _ _ (sym (access-elsewhere s e op e p)));
+      grows = λ p.
+          by_runner s e (λ b. (b && is_call gives_access op) ≡ false → is_within (access (stepped s e op b).state e p) (access s e p) ≡ true)
+          (λ runs none. subst (λ f. is_within (access (step s op).state f p) (access s f p) ≡ true) runs ((own_access s op steady apart).grows p none))
+          (λ rests none. same-within _ _ (access-elsewhere s e op e p));
+      shrinks = λ p.
+          by_runner s e (λ b. (b && is_call takes_access op) ≡ false → is_within (access s e p) (access (stepped s e op b).state e p) ≡ true)
+          (λ runs none. subst (λ f. is_within (access s f p) (access (step s op).state f p) ≡ true) runs ((own_access s op steady apart).shrinks p none))
+          (λ rests none. same-within _ _ (sym (access-elsewhere s e op e p)));
       keeps = λ p.
           by_runner s e (λ b. IsSameOrNone (access s e p) (access (stepped s e op b).state e p))
           (λ runs. subst (λ f. IsSameOrNone (access s f p) (access (step s op).state f p)) runs ((own_access s op steady apart).keeps p))
           (λ rests. inr (inr (access-elsewhere s e op e p)));
     }
 
-pub only_writers_as : (s : State) (e : ℕ) (op : Op) → IsSoundState s → OnlyWritersAs s e op
+pub only_writers_as : (s : State) (e : ℕ) (op : Op) → IsSoundState s → OnlyWriters (by e op) s
 only_writers_as s e op sound p no_right =
-    by_runner s e (λ b. (b && is_reclaimed_by op s p) ≡ false → (b && is_filled_by op s p) ≡ false → page_bytes (stepped s e op b).state p ≡ page_bytes s p)
-    (λ runs. only_writers s op sound p (subst (λ f. may_store (access s f p) ≡ false) (sym runs) no_right))
+    by_runner s e
+    (λ b. ((b && is_call is_reclaim op) && may_store (access (stepped s e op b).state e p)) ≡ false → ((f : ℕ) → ((b && is_call is_send2 op) && fills_rx_page (as_run_by e s) f p) ≡ false)
+    → page_bytes (stepped s e op b).state p ≡ page_bytes s p)
+    (λ runs none unfilled. only_writers s op sound p (subst (λ f. may_store (access s f p) ≡ false) (sym runs) no_right)
+    (subst (λ f. (is_call is_reclaim op && may_store (access (step s op).state f p)) ≡ false) (sym runs) none)
+    (λ f. subst (λ g. (is_call is_send2 op && fills_rx_page (as_run_by g s) f p) ≡ false) (sym runs) (unfilled f)))
     (λ rests one other. writes-elsewhere s e op p no_right)
 
-pub silence_as : (s : State) (e : ℕ) (op : Op) → IsSteady s → SilenceAs s e op
+pub silence_as : (s : State) (e : ℕ) (op : Op) → IsSteady s → Silence op (by e op) s
 silence_as s e op steady =
+    let heard = (silence s op steady).heard in
     record {
       rows = λ f. by_runner s e (λ b. list_all (may_be_told op) (told s e op f b) ≡ true) (λ runs. rows f s op) (λ rests. rows-elsewhere s e op f);
       public =
           by_runner s e (λ b. (b && is_call may_change_public op) ≡ false → public_part (stepped s e op b).state ≡ public_part s)
           (λ runs. public-step s op) (λ rests none. public-elsewhere s e op);
-      news = λ f its differ.
-          by_runner s e (λ b. AreNews f (view f s) (told s e op f b)) (λ runs. (silence s op steady).news f its (λ same. differ (sym runs ∙ same))) (λ rests. news-elsewhere s e op f);
-      meets = λ sound f its differ.
-          by_runner s e (λ b. AreMet f (view f s) (told s e op f b)) (λ runs. (silence s op steady).meets sound f its (λ same. differ (sym runs ∙ same))) (λ rests. met-elsewhere s e op f);
-      bare = λ f its differ.
-          by_runner s e (λ b. AreBare f (view f s) (told s e op f b)) (λ runs. (silence s op steady).bare f its (λ same. differ (sym runs ∙ same))) (λ rests. bare-elsewhere s e op f);
+      heard = record {
+        news = λ f its differ.
+            by_runner s e (λ b. AreNews f (view f s) (told s e op f b)) (λ runs. heard.news f its (λ same. differ (sym runs ∙ same))) (λ rests. news-elsewhere s e op f);
+        meets = λ sound f its differ.
+            by_runner s e (λ b. AreMet f (view f s) (told s e op f b)) (λ runs. heard.meets sound f its (λ same. differ (sym runs ∙ same))) (λ rests. met-elsewhere s e op f);
+        bare = λ f its differ.
+            by_runner s e (λ b. AreBare f (view f s) (told s e op f b)) (λ runs. heard.bare f its (λ same. differ (sym runs ∙ same))) (λ rests. bare-elsewhere s e op f);
+      };
     }
 
-pub confidential_as : (s : State) (e : ℕ) (op : Op) → IsSteady s → is_known s e ≡ true → AreApart s → ConfidentialAs s e op
+pub confidential_as : (s : State) (e : ℕ) (op : Op) → IsSteady s → is_known s e ≡ true → AreApart s → Confidential (by e op) s
 confidential_as s e op steady known apart =
     record {
       outcome = λ t steady_t same.
@@ -394,9 +400,9 @@ confidential_as s e op steady known apart =
           (λ rests. read-elsewhere s e steady known apart t steady_t same op));
       quiet = λ t steady_t same none.
           ap (λ (v : State). readable e (stepped t e op (v.runner == e)).state) same
-          ∙ by_runner s e (λ b. readable e (stepped t e op b).state ≡ readable e (stepped s e op b).state)
-          (λ runs. subst (λ f. readable f t ≡ readable f s → readable f (step t op).state ≡ readable f (step s op).state) runs (λ alike. (confidential s op steady apart).quiet t steady_t alike none) same)
-          (λ rests. quiet-elsewhere s e steady known apart t steady_t same op);
+          ∙ by_runner s e (λ b. (b && is_call gives_access op) ≡ false → readable e (stepped t e op b).state ≡ readable e (stepped s e op b).state)
+          (λ runs none. subst (λ f. readable f t ≡ readable f s → readable f (step t op).state ≡ readable f (step s op).state) runs (λ alike. (confidential s op steady apart).quiet t steady_t alike none) same)
+          (λ rests none. quiet-elsewhere s e steady known apart t steady_t same op) none;
       others = λ f its differ.
           by_runner s e (λ b. readable f (stepped s e op b).state ≡ apply_all f (readable f s) (all_readably f s (cond b (events f s op) (events_elsewhere f s e op))))
           (λ runs. (confidential s op steady apart).others f its (λ same. differ (sym runs ∙ same)))

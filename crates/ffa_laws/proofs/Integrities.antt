@@ -29,14 +29,15 @@ use Rattle.ffa_model.specs.Step.{serve, service, step}
 use Rattle.ffa_model.specs.declared.call.Transfer.{Transfer}
 use Rattle.ffa_model.specs.Transactions.{scene_of}
 use Rattle.ffa_laws.specs.Steady.{IsSteady}
-use Rattle.ffa_laws.specs.Isolation.{Integrity, LeavesBytes, fills_rx_page, is_indirect_message, is_send2}
+use Rattle.ffa_laws.specs.Isolation.{Integrity, fills_rx_page, is_send2}
+use Rattle.ffa_laws.specs.Moves.{by_call, by_runner}
 use Rattle.ffa_model.proofs.Guards.{guard-passes}
 use Rattle.ffa_laws.proofs.MemoryLaws.{fault-none}
 use Rattle.ffa_laws.proofs.SendLaws.{offer, offered-owner}
 use Rattle.ffa_model.proofs.Accesses.{page-changed}
 use Rattle.ffa_laws.proofs.Taken.{before, response, state-taken, taken, unnamed-before}
 use Rattle.ffa_laws.proofs.Maps.{first_none}
-use Rattle.ffa_laws.specs.OwnAccess.{is_memory_call}
+use Rattle.ffa_laws.specs.OwnAccess.{is_call, is_memory_call}
 use Rattle.ffa_laws.proofs.Kept.{kept-call, kept-step}
 use Rattle.ffa_laws.proofs.Written.{elsewhere, elsewhere-run}
 
@@ -156,18 +157,18 @@ module _ (s : State) (steady : IsSteady s) (e p : ℕ) (owned : owner_of s p ≡
   page-kept-call call not_bound =
       kept-call (λ ps. page_in ps p ≡ page_in s.pages p) s refl (by-runner s.pages) call (delivered_elsewhere (is_send2 call) not_bound) (memory-page call)
 
-  pub page-kept : (op : Op) → (is_indirect_message op && fills_rx_page s e p) ≡ false → page_at (step s op).state p ≡ page_at s p
+  pub page-kept : (op : Op) → (is_call is_send2 op && fills_rx_page s e p) ≡ false → page_at (step s op).state p ≡ page_at s p
   page-kept op not_bound =
       kept-step (λ ps. page_in ps p ≡ page_in s.pages p) s refl (by-runner s.pages) op
       (λ address size value none. elsewhere s.pages ((address - s.ram_base) / 4096) p (address % 4096) (little_bytes (size_of size) value) (stored_elsewhere address (size_of size) none))
-      (delivered_elsewhere (is_indirect_message op) not_bound)
+      (delivered_elsewhere (is_call is_send2 op) not_bound)
       (λ x. memory-page (decode x))
 
 abbrev pub bytes_of : Option Page → List ℕ
 bytes_of page = option_map_or (λ (q : Page). q.bytes) page []
 
-pub integrity : (s : State) (op : Op) → IsSteady s → Integrity s op
+pub integrity : (s : State) (op : Op) → IsSteady s → Integrity (by_runner op) s
 integrity s op steady e p owned unnamed other not_bound = ap bytes_of (page-kept s steady e p owned unnamed other op not_bound)
 
-pub call_integrity : (s : State) (call : calls.Call) → IsSteady s → LeavesBytes (is_send2 call) s (serve s call).state
+pub call_integrity : (s : State) (call : calls.Call) → IsSteady s → Integrity (by_call call) s
 call_integrity s call steady e p owned unnamed other not_bound = ap bytes_of (page-kept-call s steady e p owned unnamed other call not_bound)

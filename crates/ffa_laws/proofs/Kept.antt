@@ -25,8 +25,8 @@ use Rattle.ffa_model.specs.Buffers.{filled, filled_pages}
 use Rattle.ffa_model.specs.Setup.{info_bytes, is_count_alone, uuid_bytes}
 use Rattle.ffa_model.specs.Messages.{header_in, message_in, send2_guards, tx_bytes}
 use Rattle.ffa_model.specs.Step.{serve, service, step}
-use Rattle.ffa_laws.specs.Isolation.{is_indirect_message, is_send2}
-use Rattle.ffa_laws.specs.OwnAccess.{is_memory_call}
+use Rattle.ffa_laws.specs.Isolation.{is_send2}
+use Rattle.ffa_laws.specs.OwnAccess.{is_call, is_memory_call}
 use Rattle.ffa_laws.proofs.Form.{accessed-kept, served-kept}
 
 -- ---- the endpoints stay the same, and where RAM and the tables begin
@@ -108,7 +108,7 @@ module _ (R : List (Option Page) → Type 0) (s : State) (same : R s.pages) (by_
   kept-call call by_send by_memory = served-kept (λ t. R t.pages) s (service s call) same (kept-service call by_send by_memory)
 
   pub kept-step : (op : Op) → ((address : ℕ) (size : Size) (value : ℕ) → store_fault s address (size_of size) ≡ None → R (stored_pages address size value))
-      → (is_indirect_message op ≡ true → send_failure ≡ None → R sent_pages)
+      → (is_call is_send2 op ≡ true → send_failure ≡ None → R sent_pages)
       → ((x : List ℕ) → is_memory_call (decode x) ≡ true → Leaves (decode x)) → R (step s op).state.pages
   kept-step (Call x) by_store by_send by_memory = kept-call (decode x) by_send (by_memory x)
   kept-step (Load address size) by_store by_send by_memory = accessed-kept (λ t. R t.pages) s s (Data (number_at s address (size_of size))) (read_fault s address (size_of size)) same (λ none. same)

@@ -11,7 +11,8 @@ use Rattle.ffa_model.specs.Step.{serve, service, step}
 use Rattle.ffa_laws.specs.Steady.{IsSteady}
 use Rattle.ffa_laws.specs.View.{view}
 use Rattle.ffa_laws.specs.Events.{apply_all, call_events, events, told_by}
-use Rattle.ffa_laws.specs.Isolation.{OneCall, OneStep}
+use Rattle.ffa_laws.specs.Isolation.{OneStep}
+use Rattle.ffa_laws.specs.Moves.{by_call, by_runner}
 use Rattle.ffa_laws.proofs.Form.{served-kept, served-own, viewed}
 use Rattle.ffa_laws.proofs.Told.{served-other}
 use Rattle.ffa_laws.proofs.MemoryLaws.{other-fetch, other-load, other-store, own-fetch, own-load, own-store, steady-fetch, steady-load, steady-store}
@@ -54,7 +55,7 @@ two_states act own s t steady there same =
     let mine : act (view s.runner t) ≡ viewed s.runner (act t) = subst (λ e. act (view e t) ≡ viewed e (act t)) (ap (λ (v : State). v.runner) same) (own t there) in
     sym mine ∙ ap act same ∙ own s steady
 
-pub one_call : (s : State) (call : calls.Call) → IsSteady s → OneCall s call
+pub one_call : (s : State) (call : calls.Call) → IsSteady s → OneStep (by_call call) s
 one_call s call steady =
     let alike = two_states (λ u. serve u call) (λ u is. own-call u is call) s in
     record {
@@ -63,7 +64,7 @@ one_call s call steady =
       own = λ t there same. ap (λ (st : Stepped). st.state) (alike t steady there same);
     }
 
-pub one_step : (s : State) (op : Op) → IsSteady s → OneStep s op
+pub one_step : (s : State) (op : Op) → IsSteady s → OneStep (by_runner op) s
 one_step s op steady =
     let alike = two_states (λ u. step u op) (λ u is. own-step u is op) s in
     record {

@@ -43,6 +43,7 @@ use Rattle.ffa_laws.specs.View.{involves, kept, seen_by, view}
 use Rattle.ffa_laws.specs.Events.{Event, Wrote, Filled, Pending, Bound, Unbound, Opened, Held, Zeroed, Closed, Public, apply, apply_all, binds, call_events, events, opens, public_change, releases, takes, takes_from, taking, told_by, where_passed, where_true, with_held, with_holder, writes}
 use Rattle.ffa_laws.specs.Public.{public_part, same_public}
 use Rattle.ffa_laws.specs.Silence.{AreNews, Silence, may_repeat}
+use Rattle.ffa_laws.specs.Moves.{by_runner}
 use Rattle.ffa_laws.proofs.Bare.{are-bare, public-seen}
 use Rattle.ffa_laws.proofs.Changes.{apply_all-append}
 use Rattle.ffa_laws.proofs.Closed.{get-remove}
@@ -358,12 +359,14 @@ module _ (e : ℕ) (s : State) (steady : IsSteady s) where
   news-op known other (Store address size value) = news-store e v s address (size_of size) (little_bytes (size_of size) value)
   news-op known other _ = tt
 
-pub silence : (s : State) (op : Op) → IsSteady s → Silence s op
+pub silence : (s : State) (op : Op) → IsSteady s → Silence op (by_runner op) s
 silence s op steady =
     record {
       rows = λ e. rows e s op;
       public = public-step s op;
-      news = λ e known other. news-op e s steady known other op;
-      meets = λ sound e known other. are-met e s sound known op;
-      bare = λ e known other. are-bare e s steady known other op;
+      heard = record {
+        news = λ e known other. news-op e s steady known other op;
+        meets = λ sound e known other. are-met e s sound known op;
+        bare = λ e known other. are-bare e s steady known other op;
+      };
     }

@@ -37,6 +37,7 @@ use Rattle.ffa_model.proofs.CallAccesses.{access-filled, access-written}
 use Rattle.ffa_model.proofs.Guards.{guard-passes}
 use Rattle.ffa_model.proofs.Holders.{unheld-by}
 use Rattle.ffa_laws.specs.Steady.{IsSteady}
+use Rattle.ffa_laws.specs.Moves.{by_runner}
 use Rattle.ffa_laws.specs.OwnAccess.{AreApart, IsSameOrNone, OwnAccess, gives_access, is_call, takes_access}
 use Rattle.ffa_laws.proofs.Form.{accessed-kept, served-kept}
 use Rattle.ffa_laws.proofs.Opened.{opened, transaction_at-opened}
@@ -374,7 +375,7 @@ pub own-grows : (s : State) (op : Op) → IsSteady s → IsApart s.runner s → 
     → is_within (access (step s op).state s.runner p) (access s s.runner p) ≡ true
 own-grows s op steady = (own-op s steady op).grows
 
-pub own_access : (s : State) (op : Op) → IsSteady s → AreApart s → OwnAccess s op
+pub own_access : (s : State) (op : Op) → IsSteady s → AreApart s → OwnAccess (by_runner op) s
 own_access s op steady apart =
     let own = own-op s steady op in
     let mine = each-apart s.runner s apart in

@@ -25,8 +25,8 @@ use Rattle.ffa_model.proofs.Places.{partition-known}
 use Rattle.ffa_model.proofs.Processors.{elsewhere-going, on-sound, placed-still, turned-placed}
 use Rattle.ffa_model.proofs.Sounds.{sound-going}
 use Rattle.ffa_laws.specs.Events.{apply_all, public_change, switches}
-use Rattle.ffa_laws.specs.Isolation.{NeverGrow}
-use Rattle.ffa_laws.specs.Processors.{HasRunner, OneEffect, OneInterrupt, OneOperation, effect_events, events_resuming, interruption}
+use Rattle.ffa_laws.specs.Isolation.{NeverGrow, OneStep}
+use Rattle.ffa_laws.specs.Processors.{HasRunner, OneInterrupt, effect_events, events_resuming, interruption, on_processor, resuming}
 use Rattle.ffa_laws.specs.Steady.{IsSteady}
 use Rattle.ffa_laws.specs.View.{view}
 use Rattle.ffa_laws.proofs.Changes.{apply_all-append, other-changed, own-same, unwritten}
@@ -77,10 +77,10 @@ resumed-view e s _ = refl
 resumed-alike : (e : ℕ) (s t : State) (op : Op) → view e t ≡ view e s → resumed_by t op ≡ resumed_by s op
 resumed-alike e s t op same = sym (resumed-view e t op) ∙ ap (λ (v : State). resumed_by v op) same ∙ resumed-view e s op
 
-pub one_effect : (s : State) (op : Op) → IsSteady s → OneEffect s op
+pub one_effect : (s : State) (op : Op) → IsSteady s → OneStep (resuming op) s
 one_effect s op steady = record {
   others = λ e known other. (of-other e known other (resumed_by s op));
-  effect = λ t steady_t same. ap (λ o. (effected t op o).effect) (resumed-alike s.runner s t op same) ∙ of-effect t steady_t same (resumed_by s op);
+  outcome = λ t steady_t same. ap (λ o. (effected t op o).effect) (resumed-alike s.runner s t op same) ∙ of-effect t steady_t same (resumed_by s op);
   own = λ t steady_t same. ap (λ o. view s.runner (effected t op o).state) (resumed-alike s.runner s t op same) ∙ of-own t steady_t same (resumed_by s op);
 }
   where
@@ -140,7 +140,7 @@ module _ (processors : Processors) (p : ℕ) where
         (steady-switched s steady (left_status s.runner) (runner_on processors p) (known other))
   ]
 
-  pub one_operation : (op : Op) (s : State) → IsSteady s → HasRunner processors p s → OneOperation processors p s op
+  pub one_operation : (op : Op) (s : State) → IsSteady s → HasRunner processors p s → OneStep (on_processor processors p op) s
   one_operation op s steady known =
       let now = on processors p s in
       let its = one_effect now op (on-steady s steady known) in
@@ -149,7 +149,7 @@ module _ (processors : Processors) (p : ℕ) where
             its.others e (on-known e s ∙ there) other
             ∙ ap (λ (v : State). apply_all e v (events_resuming e now op)) (on-told e s)
             ∙ sym (apply_all-append e (view e s) (public_change s now) (events_resuming e now op));
-        effect = λ t steady_t same. its.effect (on processors p t) (on-steady t steady_t (known-there t same)) (on-alike now.runner s t same);
+        outcome = λ t steady_t same. its.outcome (on processors p t) (on-steady t steady_t (known-there t same)) (on-alike now.runner s t same);
         own = λ t steady_t same. its.own (on processors p t) (on-steady t steady_t (known-there t same)) (on-alike now.runner s t same);
       }
     where

@@ -23,15 +23,15 @@ use Rattle.ffa_model.specs.SoundState.{IsSoundState}
 use Rattle.ffa_model.specs.State.{State, is_known, owner_of}
 use Rattle.ffa_model.proofs.Accesses.{length-map_at}
 use Rattle.ffa_laws.specs.Events.{Event, Wrote, Message, Opened, Zeroed, Public, apply_all, public_change, switches, where_true, with_public, with_public_buffers}
-use Rattle.ffa_laws.specs.Isolation.{LeavesBytes, is_indirect_message}
-use Rattle.ffa_laws.specs.OwnAccess.{AreApart, IsSameOrNone, gives_access, is_call, takes_access}
-use Rattle.ffa_laws.specs.Processors.{ConfidentialInterrupt, ConfidentialOn, IntegrityOn, OnlyWritersOn, OwnAccessOn, SilenceOn, effect_events, events_resuming, interrupt_events, interruption}
+use Rattle.ffa_laws.specs.Isolation.{Integrity}
+use Rattle.ffa_laws.specs.OwnAccess.{AreApart, IsSameOrNone, OwnAccess, gives_access, is_call, takes_access}
+use Rattle.ffa_laws.specs.Processors.{ConfidentialInterrupt, effect_events, events_resuming, interrupt_events, interruption, on_processor, resuming}
 use Rattle.ffa_laws.specs.Public.{PublicPart, public_part}
-use Rattle.ffa_laws.specs.Readable.{all_readably, blank, blank_where, is_unreadable, readable, readably, revealed}
-use Rattle.ffa_laws.specs.Silence.{AreBare, AreMet, AreNews, may_be_told, may_change_public}
+use Rattle.ffa_laws.specs.Readable.{Confidential, all_readably, blank, blank_where, is_unreadable, readable, readably, revealed}
+use Rattle.ffa_laws.specs.Silence.{AreBare, AreMet, AreNews, IsHeard, Silence, may_be_told, may_change_public}
 use Rattle.ffa_laws.specs.Steady.{IsSteady}
 use Rattle.ffa_laws.specs.View.{view}
-use Rattle.ffa_laws.specs.Writers.{is_filled_by, is_reclaimed_by}
+use Rattle.ffa_laws.specs.Writers.{OnlyWriters, is_reclaim}
 use Rattle.ffa_laws.proofs.Bare.{bare-append, bare-public}
 use Rattle.ffa_laws.proofs.Changes.{apply_all-append}
 use Rattle.ffa_laws.proofs.Clean.{readably-append}
@@ -81,20 +81,19 @@ module _ (s : State) (op : Op) (sound : IsSoundState s) where
   steady : IsSteady s
   steady = sound-steady s sound
 
-  integrity-resuming : LeavesBytes (is_indirect_message op) s (step_resuming s op).state
-  integrity-resuming = of (resumed_by s op)
-    where
-      of : (o : Option ℕ) → LeavesBytes (is_indirect_message op) s (effected s op o).state
-      of None = integrity s op steady
-      of (Some f) = λ e p owner alone other message. refl
-
-  writers-resuming : (p : ℕ) → may_store (access s s.runner p) ≡ false → is_reclaimed_by op s p ≡ false → is_filled_by op s p ≡ false
-      → page_bytes (step_resuming s op).state p ≡ page_bytes s p
-  writers-resuming p no_right unreclaimed unfilled = of (resumed_by s op)
+  integrity-resuming : Integrity (resuming op) s
+  integrity-resuming e p owner alone other message = of (resumed_by s op)
     where
       of : (o : Option ℕ) → page_bytes (effected s op o).state p ≡ page_bytes s p
-      of None = only_writers s op sound p no_right unreclaimed unfilled
+      of None = integrity s op steady e p owner alone other message
       of (Some f) = refl
+
+  writers-resuming : OnlyWriters (resuming op) s
+  writers-resuming p no_right unreclaimed unfilled = of (resumed_by s op) unreclaimed
+    where
+      of : (o : Option ℕ) → (is_call is_reclaim op && may_store (access (effected s op o).state s.runner p)) ≡ false → page_bytes (effected s op o).state p ≡ page_bytes s p
+      of None none = only_writers s op sound p no_right none unfilled
+      of (Some f) none = refl
 
   rows-resuming : (e : ℕ) → list_all (may_be_told op) (events_resuming e s op) ≡ true
   rows-resuming e = of (resumed_by s op) refl
@@ -115,22 +114,29 @@ module _ (s : State) (op : Op) (sound : IsSoundState s) where
     news-resuming = of (resumed_by s op)
       where
         of : (o : Option ℕ) → AreNews e (view e s) (effect_events e s op o)
-        of None = (silence s op steady).news e known other
+        of None = (silence s op steady).heard.news e known other
         of (Some f) = news-public e s (with_switch s Blocked f) [] refl (other-switched e s Blocked f)
 
     met-resuming : AreMet e (view e s) (events_resuming e s op)
     met-resuming = of (resumed_by s op)
       where
         of : (o : Option ℕ) → AreMet e (view e s) (effect_events e s op o)
-        of None = (silence s op steady).meets sound e known other
+        of None = (silence s op steady).heard.meets sound e known other
         of (Some f) = either-public (AreMet e (view e s)) s (with_switch s Blocked f) tt (refl, tt)
 
     bare-resuming : AreBare e (view e s) (events_resuming e s op)
     bare-resuming = of (resumed_by s op)
       where
         of : (o : Option ℕ) → AreBare e (view e s) (effect_events e s op o)
-        of None = (silence s op steady).bare e known other
+        of None = (silence s op steady).heard.bare e known other
         of (Some f) = bare-public e s (with_switch s Blocked f) [] (other-switched e s Blocked f)
+
+  silence-resuming : Silence op (resuming op) s
+  silence-resuming = record {
+    rows = rows-resuming;
+    public = public-resuming;
+    heard = record { news = news-resuming; meets = λ sound. met-resuming; bare = bare-resuming };
+  }
 
   module _ (apart : AreApart s) where
     access-resuming : (e p : ℕ) → s.runner ≢ e → access (step_resuming s op).state e p ≡ access s e p
@@ -273,15 +279,15 @@ module _ (processors : Processors) (p : ℕ) where
     sound-now : IsSoundState now
     sound-now = on-sound-state s sound processors placed p within
 
-    pub integrity-on : IntegrityOn processors p s op
+    pub integrity-on : Integrity (on_processor processors p op) s
     integrity-on e q owner alone other message =
         integrity-resuming now op sound-now e q (on-owner s q ∙ owner) (on-handle s q ∙ alone) other message ∙ on-bytes s q
 
-    pub only-writers-on : OnlyWritersOn processors p s op
+    pub only-writers-on : OnlyWriters (on_processor processors p op) s
     only-writers-on q no_right unreclaimed unfilled =
         writers-resuming now op sound-now q (ap may_store (on-access s now.runner q) ∙ no_right) unreclaimed unfilled ∙ on-bytes s q
 
-    pub own-access-on : AreApart s → OwnAccessOn processors p s op
+    pub own-access-on : AreApart s → OwnAccess (on_processor processors p op) s
     own-access-on apart =
         let there = on-apart s apart in
         let next = (step_on processors p s op).state in
@@ -292,27 +298,31 @@ module _ (processors : Processors) (p : ℕ) where
           keeps = λ q. subst (λ right. IsSameOrNone right (access next now.runner q)) (on-access s now.runner q) (keeps-resuming now op sound-now there q);
         }
 
-    pub silence-on : SilenceOn processors p s op
-    silence-on = record {
-      rows = rows-resuming now op sound-now;
-      public = public-resuming now op sound-now;
-      news = λ e known other.
-          news-append e (view e s) (public_change s now) (events_resuming e now op) (news-public e s now [] refl (on-told processors p e s))
-          (subst (λ v. AreNews e v (events_resuming e now op)) (on-told processors p e s) (news-resuming now op sound-now e (there e known) other));
-      meets = λ e known other.
-          met-append e (view e s) (public_change s now) (events_resuming e now op) (either-public (AreMet e (view e s)) s now tt (refl, tt))
-          (subst (λ v. AreMet e v (events_resuming e now op)) (on-told processors p e s) (met-resuming now op sound-now e (there e known) other));
-      bare = λ e known other.
-          bare-append e (view e s) (public_change s now) (events_resuming e now op) (bare-public e s now [] (on-told processors p e s))
-          (subst (λ v. AreBare e v (events_resuming e now op)) (on-told processors p e s) (bare-resuming now op sound-now e (there e known) other));
-    }
+    pub silence-on : Silence op (resuming op) now × IsHeard (on_processor processors p op) s
+    silence-on = (
+      seen,
+      record {
+        news = λ e known other.
+            news-append e (view e s) (public_change s now) (events_resuming e now op) (news-public e s now [] refl (on-told processors p e s))
+            (subst (λ v. AreNews e v (events_resuming e now op)) (on-told processors p e s) (seen.heard.news e (there e known) other));
+        meets = λ sound_s e known other.
+            met-append e (view e s) (public_change s now) (events_resuming e now op) (either-public (AreMet e (view e s)) s now tt (refl, tt))
+            (subst (λ v. AreMet e v (events_resuming e now op)) (on-told processors p e s) (seen.heard.meets sound-now e (there e known) other));
+        bare = λ e known other.
+            bare-append e (view e s) (public_change s now) (events_resuming e now op) (bare-public e s now [] (on-told processors p e s))
+            (subst (λ v. AreBare e v (events_resuming e now op)) (on-told processors p e s) (seen.heard.bare e (there e known) other));
+      },
+    )
       where
+        seen : Silence op (resuming op) now
+        seen = silence-resuming now op sound-now
+
         there : (e : ℕ) → is_known s e ≡ true → is_known now e ≡ true
         there e known = on-known processors p e s ∙ known
 
-    pub confidential-on : AreApart s → ConfidentialOn processors p s op
+    pub confidential-on : AreApart s → Confidential (on_processor processors p op) s
     confidential-on apart = record {
-      effect = λ t steady_t same. effect-alike now op sound-now there (on processors p t) (steady-there t steady_t same) (readable-alike now.runner s t same);
+      outcome = λ t steady_t same. effect-alike now op sound-now there (on processors p t) (steady-there t steady_t same) (readable-alike now.runner s t same);
       own = λ t steady_t same shown.
           own-alike now op sound-now there (on processors p t) (steady-there t steady_t same) (readable-alike now.runner s t same)
           (on-revealed t (step_on processors p t op).state now.runner ∙ shown ∙ sym (on-revealed s (step_on processors p s op).state now.runner));

@@ -32,6 +32,7 @@ use Rattle.ffa_model.proofs.Guards.{guard-passes}
 use Rattle.ffa_laws.specs.Steady.{IsSteady}
 use Rattle.ffa_laws.specs.View.{is_near, kept, view, involves, seen_by}
 use Rattle.ffa_laws.specs.Events.{Event, Wrote, Message, Filled, Pending, Bound, Unbound, Opened, Held, Zeroed, Closed, Public, apply, apply_all, events, where_true, with_public_buffers, with_holder, with_opened, with_public, call_events, public_change, releases, where_passed, writes}
+use Rattle.ffa_laws.specs.Moves.{by_runner}
 use Rattle.ffa_laws.specs.OwnAccess.{AreApart, gives_access, is_call}
 use Rattle.ffa_laws.specs.Readable.{Confidential, all_readably, blank, blank_page, blank_where, blanked, is_unreadable, readable, readably, revealed}
 use Rattle.ffa_laws.specs.Silence.{may_tell}
@@ -486,7 +487,7 @@ module _ (e : ℕ) (s : State) where
       ∙ told-readably (events e s op) (view e s) (readable e s) (λ i. record (view e s) { pages = sym (blanked-twice hidden (view e s).pages) i }) refl (fit-op steady op)
       ∙ heard-blank e s steady known op
 
-pub confidential : (s : State) (op : Op) → IsSteady s → AreApart s → Confidential s op
+pub confidential : (s : State) (op : Op) → IsSteady s → AreApart s → Confidential (by_runner op) s
 confidential s op steady apart =
     record {
       outcome = λ t there alike. same-outcome s t steady there alike op;

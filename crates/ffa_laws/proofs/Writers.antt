@@ -39,9 +39,10 @@ use Rattle.ffa_model.specs.Transactions.{are_writable, closed, open_of, scene_of
 use Rattle.ffa_model.proofs.Accesses.{access-closed, access-zeroed, named-in, page-changed}
 use Rattle.ffa_model.proofs.Guards.{guard-passes}
 use Rattle.ffa_model.proofs.NamedPages.{listed-each}
-use Rattle.ffa_laws.specs.Isolation.{fills_rx_page, is_send2}
+use Rattle.ffa_laws.specs.Isolation.{fills, fills_rx_page, is_send2}
+use Rattle.ffa_laws.specs.Moves.{by_runner}
 use Rattle.ffa_laws.specs.Steady.{IsSteady}
-use Rattle.ffa_laws.specs.Writers.{OnlyWriters, is_filled_by, is_reclaim, is_reclaimed_by}
+use Rattle.ffa_laws.specs.Writers.{OnlyWriters, is_reclaim, is_reclaimed}
 use Rattle.ffa_laws.proofs.Form.{accessed-kept, served-kept}
 use Rattle.ffa_laws.proofs.Given.{page-given}
 use Rattle.ffa_laws.proofs.SendLaws.{IsOffer, free, no-offer, offer, offered-owner}
@@ -237,12 +238,12 @@ module _ (s : State) (sound : IsSoundState s) (p : ℕ) (no_right : may_store (a
   only-service MsgSend2 not_filled none later = delivered-elsewhere none not_filled
   only-service call not_filled none later = refl
 
-  only-op : (op : Op) → is_filled_by op s p ≡ false → is_reclaimed_by op s p ≡ false → page_bytes (step s op).state p ≡ page_bytes s p
+  only-op : (op : Op) → fills (by_runner op s) (header_in (tx_bytes s s.runner)).receiver p ≡ false → is_reclaimed (by_runner op s) p ≡ false → page_bytes (step s op).state p ≡ page_bytes s p
   only-op (Call x) not_filled later =
       served-kept (λ t. (is_reclaim (decode x) && may_store (access t s.runner p)) ≡ false → page_bytes t p ≡ page_bytes s p) s (service s (decode x)) (λ later. refl) (only-service (decode x) not_filled) later
   only-op (Load address size) not_filled later = accessed-kept (λ t. page_bytes t p ≡ page_bytes s p) s s (Data (number_at s address (size_of size))) (read_fault s address (size_of size)) refl (λ none. refl)
   only-op (Store address size value) not_filled later = only-store s p no_right address size value
   only-op (Fetch address) not_filled later = accessed-kept (λ t. page_bytes t p ≡ page_bytes s p) s s (Data (number_at s address 4)) (fetch_fault s address) refl (λ none. refl)
 
-pub only_writers : (s : State) (op : Op) → IsSoundState s → OnlyWriters s op
-only_writers s op sound p no_right not_reclaimed not_filled = only-op s sound p no_right op not_filled not_reclaimed
+pub only_writers : (s : State) (op : Op) → IsSoundState s → OnlyWriters (by_runner op) s
+only_writers s op sound p no_right not_reclaimed not_filled = only-op s sound p no_right op (not_filled (header_in (tx_bytes s s.runner)).receiver) not_reclaimed

@@ -5,7 +5,6 @@ use Rattle.std.specs.Option.{option_map_or}
 use Rattle.ffa_model.specs.Numbers.{Identifier, PageIndex}
 use Rattle.ffa_model.specs.Lists.{is_in_run}
 use Rattle.ffa_model.specs.declared.operation.Op.{Op}
-use Rattle.ffa_model.specs.declared.operation.Op.TheVariants.{Call, Load, Store, Fetch}
 use Rattle.ffa_model.specs.declared.operation.Outcome.{Outcome}
 use Rattle.ffa_model.specs.declared.operation.Outcome.TheVariants.{Regs, Data, Done, Fault}
 use Rattle.ffa_model.specs.declared.call.Call as calls
@@ -14,33 +13,24 @@ use Rattle.ffa_model.specs.Rights.{is_within}
 use Rattle.ffa_model.specs.State.{State, Transaction, Buffers, page_at, owner_of, buffers_of, is_known, own_right_of}
 use Rattle.ffa_model.specs.Access.{access, handle_at, transaction_at}
 use Rattle.ffa_model.specs.Memory.{page_bytes}
-use Rattle.ffa_model.specs.Registers.{decode}
 use Rattle.ffa_model.specs.Calls.{first_failure}
 use Rattle.ffa_model.specs.Messages.{header_in, msg_send2, tx_bytes}
-use Rattle.ffa_model.specs.Step.{outcomes, serve, state_after, step}
+use Rattle.ffa_model.specs.Step.{outcomes, state_after}
 use Rattle.ffa_laws.specs.Steady.{IsSteady, is_joint}
 use Rattle.ffa_laws.specs.View.{view}
-use Rattle.ffa_laws.specs.Events.{apply_all, call_events, events, items, seen}
+use Rattle.ffa_laws.specs.Events.{apply_all, items, seen}
+use Rattle.ffa_laws.specs.Move.{Move}
 
 -- ISOLATION
 
--- One call: what another endpoint learns is in its events, and the runner's outcome and its view afterwards depend on its
+-- One move: what another endpoint learns is in its events, and the actor's result and its view afterwards depend on its
 -- view before alone.
-pub record OneCall (s : State) (call : calls.Call) : Type 0 where
-  pub others : (e : ℕ) → is_known s e ≡ true → s.runner ≢ e
-      → view e (serve s call).state ≡ apply_all e (view e s) (call_events e s call)
-  pub outcome : (t : State) → IsSteady t → view s.runner t ≡ view s.runner s
-      → (serve t call).outcome ≡ (serve s call).outcome
-  pub own : (t : State) → IsSteady t → view s.runner t ≡ view s.runner s
-      → view s.runner (serve t call).state ≡ view s.runner (serve s call).state
-
--- one operation, alike
-pub record OneStep (s : State) (op : Op) : Type 0 where
-  pub others : (e : ℕ) → is_known s e ≡ true → s.runner ≢ e
-      → view e (step s op).state ≡ apply_all e (view e s) (events e s op)
-  pub outcome : (t : State) → IsSteady t → view s.runner t ≡ view s.runner s → (step t op).outcome ≡ (step s op).outcome
-  pub own : (t : State) → IsSteady t → view s.runner t ≡ view s.runner s
-      → view s.runner (step t op).state ≡ view s.runner (step s op).state
+pub record OneStep {Result : Type 0} (m : State → Move Result) (s : State) : Type 0 where
+  pub others : (e : ℕ) → is_known s e ≡ true → (m s).from.runner ≢ e
+      → view e (m s).after ≡ apply_all e (view e s) ((m s).told e)
+  pub outcome : (t : State) → IsSteady t → view (m s).from.runner t ≡ view (m s).from.runner s → (m t).result ≡ (m s).result
+  pub own : (t : State) → IsSteady t → view (m s).from.runner t ≡ view (m s).from.runner s
+      → view (m s).from.runner (m t).after ≡ view (m s).from.runner (m s).after
 
 -- who runs after an outcome
 abbrev pub runner_after : ℕ → Outcome → ℕ
@@ -88,12 +78,6 @@ abbrev pub is_send2 : calls.Call → Bool
 is_send2 MsgSend2 = true
 is_send2 call = false
 
-abbrev pub is_indirect_message : Op → Bool
-is_indirect_message (Call x) = is_send2 (decode x)
-is_indirect_message (Load addr size) = false
-is_indirect_message (Store addr size value) = false
-is_indirect_message (Fetch addr) = false
-
 -- whether e has mapped buffers, and this page is one of those of its RX
 abbrev pub is_rx : State → Identifier → PageIndex → Bool
 is_rx s e p = option_map_or (λ (b : Buffers). is_in_run b.rx b.pages p) (buffers_of s e) false
@@ -104,12 +88,12 @@ abbrev pub fills_rx_page : State → Identifier → PageIndex → Bool
 fills_rx_page s e p =
     is_none (first_failure (msg_send2 s).guards) && ((header_in (tx_bytes s s.runner)).receiver == e && is_rx s e p)
 
--- From s to t the bytes of a page that its owner has alone stay while another endpoint runs, but for a message into the
--- owner's RX.
-abbrev pub LeavesBytes : Bool → State → State → Type 0
-LeavesBytes message s t =
-    (e p : ℕ) → owner_of s p ≡ e → handle_at s p ≡ None → s.runner ≢ e → (message && fills_rx_page s e p) ≡ false
-    → page_bytes t p ≡ page_bytes s p
+-- and whether a move is such a message
+abbrev pub fills : {Result : Type 0} → Move Result → Identifier → PageIndex → Bool
+fills m e p = m.asks is_send2 && fills_rx_page m.from e p
 
-abbrev pub Integrity : State → Op → Type 0
-Integrity s op = LeavesBytes (is_indirect_message op) s (step s op).state
+-- The bytes of a page that its owner has alone stay while another endpoint acts, but for a message into the owner's RX.
+abbrev pub Integrity : {Result : Type 0} → (State → Move Result) → State → Type 0
+Integrity m s =
+    (e p : ℕ) → owner_of s p ≡ e → handle_at s p ≡ None → (m s).from.runner ≢ e → fills (m s) e p ≡ false
+    → page_bytes (m s).after p ≡ page_bytes s p

@@ -3,6 +3,7 @@ pub mod Public
 pub mod View
 pub mod Events
 pub mod Steady
+pub mod Move
 pub mod Replay
 pub mod OwnAccess
 pub mod Readable
@@ -12,6 +13,7 @@ pub mod Silence
 pub mod Writers
 pub mod RunIntegrity
 pub mod Isolation
+pub mod Moves
 pub mod Elsewhere
 pub mod ElsewhereRuns
 pub mod Stores

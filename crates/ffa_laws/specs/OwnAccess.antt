@@ -11,7 +11,7 @@ use Rattle.ffa_model.specs.State.{State, Transaction, transaction_of}
 use Rattle.ffa_model.specs.Access.{access, is_receiver}
 use Rattle.ffa_model.specs.Registers.{decode}
 use Rattle.ffa_model.specs.SoundState.{is_secure}
-use Rattle.ffa_model.specs.Step.{step}
+use Rattle.ffa_laws.specs.Move.{Move}
 
 -- the calls by which a caller may get a right to a page, and those by which it may lose one
 abbrev pub gives_access : calls.Call → Bool
@@ -54,14 +54,14 @@ AreWorldsApart s = (p : ℕ) → is_secure s p ≡ true → access s 0 p ≡ Non
 abbrev pub IsSameOrNone : Option Rights → Option Rights → Type 0
 IsSameOrNone before behind = (behind ≡ None) ⊎ ((before ≡ None) ⊎ (behind ≡ before))
 
--- One operation, in a state in which nobody is offered what it has sent itself: nobody's access changes but the
--- runner's. The runner's grows only by FFA_MEM_RETRIEVE_REQ and FFA_MEM_RECLAIM, and shrinks only by FFA_MEM_DONATE,
+-- One move, in a state in which nobody is offered what it has sent itself: nobody's access changes but the actor's.
+-- The actor's grows only by FFA_MEM_RETRIEVE_REQ and FFA_MEM_RECLAIM, and shrinks only by FFA_MEM_DONATE,
 -- FFA_MEM_LEND and FFA_MEM_RELINQUISH. Who is offered its own share would get its rights back by giving it up, and lose
 -- them by taking it. No right gives way to another one.
-pub record OwnAccess (s : State) (op : Op) : Type 0 where
-  pub others : (e p : ℕ) → s.runner ≢ e → access (step s op).state e p ≡ access s e p
-  pub grows : (p : ℕ) → is_call gives_access op ≡ false
-      → is_within (access (step s op).state s.runner p) (access s s.runner p) ≡ true
-  pub shrinks : (p : ℕ) → is_call takes_access op ≡ false
-      → is_within (access s s.runner p) (access (step s op).state s.runner p) ≡ true
-  pub keeps : (p : ℕ) → IsSameOrNone (access s s.runner p) (access (step s op).state s.runner p)
+pub record OwnAccess {Result : Type 0} (m : State → Move Result) (s : State) : Type 0 where
+  pub others : (e p : ℕ) → (m s).from.runner ≢ e → access (m s).after e p ≡ access s e p
+  pub grows : (p : ℕ) → (m s).asks gives_access ≡ false
+      → is_within (access (m s).after (m s).from.runner p) (access s (m s).from.runner p) ≡ true
+  pub shrinks : (p : ℕ) → (m s).asks takes_access ≡ false
+      → is_within (access s (m s).from.runner p) (access (m s).after (m s).from.runner p) ≡ true
+  pub keeps : (p : ℕ) → IsSameOrNone (access s (m s).from.runner p) (access (m s).after (m s).from.runner p)

@@ -12,7 +12,8 @@ use Rattle.ffa_model.specs.Step.{state_after, step}
 use Rattle.ffa_laws.specs.Steady.{IsSteady}
 use Rattle.ffa_laws.specs.View.{kept, view}
 use Rattle.ffa_laws.specs.Events.{Event, Wrote, Opened, Zeroed, apply_all, events, seen, where_true}
-use Rattle.ffa_laws.specs.OwnAccess.{gives_access, is_call}
+use Rattle.ffa_laws.specs.Move.{Move}
+use Rattle.ffa_laws.specs.OwnAccess.{gives_access}
 
 -- a page without its bytes, and a state in which each page that a test picks has none
 abbrev pub blank_page : Option Page → Option Page
@@ -50,22 +51,21 @@ abbrev pub all_readably : Identifier → State → List Event → List Event
 all_readably e s [] = []
 all_readably e s (event ∷ events) = readably e s event ++ all_readably e s events
 
--- One operation of the runner, from two states in which it can read the same: it has the same outcome, and leaves
--- states in which the runner can read the same, if what becomes readable to it is the same. Where it neither retrieves
--- nor reclaims, no such condition is needed. And an operation of another endpoint changes what e can read by what is told
--- to it readably alone. This is of states s in which nobody is offered what it sent itself.
-pub record Confidential (s : State) (op : Op) : Type 0 where
-  pub outcome : (t : State) → IsSteady t → readable s.runner t ≡ readable s.runner s
-      → (step t op).outcome ≡ (step s op).outcome
+-- One move, from two states in which the actor can read the same: it has the same result, and leaves states in which
+-- the actor can read the same, if what becomes readable to it is the same. Where it neither retrieves nor reclaims, no
+-- such condition is needed. And what another endpoint can read changes by what is told to it readably alone. This is of
+-- states s in which nobody is offered what it sent itself.
+pub record Confidential {Result : Type 0} (m : State → Move Result) (s : State) : Type 0 where
+  pub outcome : (t : State) → IsSteady t → readable (m s).from.runner t ≡ readable (m s).from.runner s → (m t).result ≡ (m s).result
   pub own :
-      (t : State) → IsSteady t → readable s.runner t ≡ readable s.runner s
-      → revealed s.runner t (step t op).state ≡ revealed s.runner s (step s op).state
-      → readable s.runner (step t op).state ≡ readable s.runner (step s op).state
-  pub quiet : (t : State) → IsSteady t → readable s.runner t ≡ readable s.runner s → is_call gives_access op ≡ false
-      → readable s.runner (step t op).state ≡ readable s.runner (step s op).state
+      (t : State) → IsSteady t → readable (m s).from.runner t ≡ readable (m s).from.runner s
+      → revealed (m s).from.runner t (m t).after ≡ revealed (m s).from.runner s (m s).after
+      → readable (m s).from.runner (m t).after ≡ readable (m s).from.runner (m s).after
+  pub quiet : (t : State) → IsSteady t → readable (m s).from.runner t ≡ readable (m s).from.runner s → (m s).asks gives_access ≡ false
+      → readable (m s).from.runner (m t).after ≡ readable (m s).from.runner (m s).after
   pub others :
-      (e : ℕ) → is_known s e ≡ true → s.runner ≢ e
-      → readable e (step s op).state ≡ apply_all e (readable e s) (all_readably e s (events e s op))
+      (e : ℕ) → is_known s e ≡ true → (m s).from.runner ≢ e
+      → readable e (m s).after ≡ apply_all e (readable e s) (all_readably e s ((m s).told e))
 
 -- RUNS
 

@@ -14,11 +14,10 @@ use Rattle.ffa_model.specs.Buffers.{room_of}
 use Rattle.ffa_model.specs.Notifications.{has_bitmaps_in, notifications_of}
 use Rattle.ffa_model.specs.SoundState.{IsSoundState}
 use Rattle.ffa_model.specs.Registers.{decode}
-use Rattle.ffa_model.specs.Step.{step}
 use Rattle.ffa_laws.specs.View.{view}
-use Rattle.ffa_laws.specs.Events.{Event, Wrote, Message, Filled, Pending, Bound, Unbound, Opened, Held, Zeroed, Closed, Public, apply, events, named_pages}
+use Rattle.ffa_laws.specs.Events.{Event, Wrote, Message, Filled, Pending, Bound, Unbound, Opened, Held, Zeroed, Closed, Public, apply, named_pages}
+use Rattle.ffa_laws.specs.Move.{Move}
 use Rattle.ffa_laws.specs.Public.{public_part}
-use Rattle.ffa_laws.specs.OwnAccess.{is_call}
 
 -- the calls that may change the public part
 abbrev pub may_change_public : calls.Call → Bool
@@ -115,15 +114,20 @@ abbrev pub AreBare : Identifier → State → List Event → Type 0
 AreBare e v [] = Unit {0}
 AreBare e v (event ∷ later) = IsBare e (apply e v event) event × AreBare e (apply e v event) later
 
-pub record Silence (s : State) (op : Op) : Type 0 where
-  -- an operation gives only the events of its row
-  pub rows : (e : ℕ) → list_all (may_be_told op) (events e s op) ≡ true
-  -- all but these calls leave the public part as it was
-  pub public : is_call may_change_public op ≡ false → public_part (step s op).state ≡ public_part s
-  -- what another is told changes its view, but for events that may repeat
-  pub news : (e : ℕ) → is_known s e ≡ true → s.runner ≢ e → AreNews e (view e s) (events e s op)
+-- what a move tells endpoints other than the actor
+pub record IsHeard {Result : Type 0} (m : State → Move Result) (s : State) : Type 0 where
+  -- each event changes the view of who is told, except events that may repeat
+  pub news : (e : ℕ) → is_known s e ≡ true → (m s).from.runner ≢ e → AreNews e (view e s) ((m s).told e)
   -- and what may repeat, but for a message, is about something in its view; in a sound state, where a bit is bound only
   -- to whose receiver has bitmaps
-  pub meets : IsSoundState s → (e : ℕ) → is_known s e ≡ true → s.runner ≢ e → AreMet e (view e s) (events e s op)
+  pub meets : IsSoundState s → (e : ℕ) → is_known s e ≡ true → (m s).from.runner ≢ e → AreMet e (view e s) ((m s).told e)
   -- and all that an event says, but for a message, goes into the view
-  pub bare : (e : ℕ) → is_known s e ≡ true → s.runner ≢ e → AreBare e (view e s) (events e s op)
+  pub bare : (e : ℕ) → is_known s e ≡ true → (m s).from.runner ≢ e → AreBare e (view e s) ((m s).told e)
+
+-- silence of a move by which this operation is done
+pub record Silence {Result : Type 0} (op : Op) (m : State → Move Result) (s : State) : Type 0 where
+  -- an operation gives only the events of its row
+  pub rows : (e : ℕ) → list_all (may_be_told op) ((m s).told e) ≡ true
+  -- all but these calls leave the public part as it was
+  pub public : (m s).asks may_change_public ≡ false → public_part (m s).after ≡ public_part s
+  pub heard : IsHeard m s

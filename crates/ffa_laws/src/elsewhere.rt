@@ -9,19 +9,22 @@ ghost use Rattle.ffa_model.specs.Rights.{may_store};
 ghost use Rattle.ffa_model.specs.SoundState.{IsSoundState, are_bytes};
 ghost use Rattle.ffa_model.specs.State.{State, is_known};
 ghost use Rattle.ffa_model.specs.Step.{step};
-ghost use Rattle.ffa_laws.specs.Elsewhere.{ConfidentialAs, IntegrityAs, OneStepAs, OnlyWritersAs, OwnAccessAs, SilenceAs};
+ghost use Rattle.ffa_laws.specs.Elsewhere.{by};
 ghost use Rattle.ffa_laws.specs.ElsewhereRuns.{IsolatedAs, are_known};
-ghost use Rattle.ffa_laws.specs.Isolation.{NeverGrow};
-ghost use Rattle.ffa_laws.specs.OwnAccess.{AreApart};
+ghost use Rattle.ffa_laws.specs.Isolation.{Integrity, NeverGrow, OneStep};
+ghost use Rattle.ffa_laws.specs.OwnAccess.{AreApart, OwnAccess};
+ghost use Rattle.ffa_laws.specs.Readable.{Confidential};
+ghost use Rattle.ffa_laws.specs.Silence.{Silence};
 ghost use Rattle.ffa_laws.specs.Steady.{IsSteady};
 ghost use Rattle.ffa_laws.specs.Stores.{AreWritten, all_stores, stores, with_bytes_of};
+ghost use Rattle.ffa_laws.specs.Writers.{OnlyWriters};
 
 /// One operation of any endpoint: the runner's is a step. Another endpoint's view changes by the events that the operation
 /// tells it, and the outcome and the own view afterwards depend on the own view alone. Rights don't grow, and a state that
 /// is steady or sound stays so.
 pub fn one_step_as()
     ensures runner { (s : State) (op : Op) → step_as s s.runner op ≡ step s op }
-    ensures step { (s : State) (e : ℕ) (op : Op) → IsSteady s → is_known s e ≡ true → OneStepAs s e op }
+    ensures step { (s : State) (e : ℕ) (op : Op) → IsSteady s → is_known s e ≡ true → OneStep (by e op) s }
     ensures never_grow { (s : State) (e : ℕ) (op : Op) → IsSteady s → is_known s e ≡ true
         → NeverGrow s (step_as s e op).state }
     ensures steady { (s : State) (e : ℕ) (op : Op) → IsSteady s → is_known s e ≡ true
@@ -31,29 +34,29 @@ pub fn one_step_as()
 
 /// A page that its owner has alone keeps its bytes while another endpoint acts, but for the runner's message into its RX.
 pub fn integrity_as()
-    ensures { (s : State) (e : ℕ) (op : Op) → IsSteady s → is_known s e ≡ true → IntegrityAs s e op }
+    ensures { (s : State) (e : ℕ) (op : Op) → IsSteady s → is_known s e ≡ true → Integrity (by e op) s }
 {}
 
 /// The bytes of a page change only where who acts may write to it before, or by what a call of the runner may write besides.
 pub fn only_writers_as()
-    ensures { (s : State) (e : ℕ) (op : Op) → IsSoundState s → OnlyWritersAs s e op }
+    ensures { (s : State) (e : ℕ) (op : Op) → IsSoundState s → OnlyWriters (by e op) s }
 {}
 
 /// In a state in which nobody is offered what it sent itself, only the runner's own calls change its access.
 pub fn own_access_as()
-    ensures { (s : State) (e : ℕ) (op : Op) → IsSteady s → AreApart s → OwnAccessAs s e op }
+    ensures { (s : State) (e : ℕ) (op : Op) → IsSteady s → AreApart s → OwnAccess (by e op) s }
 {}
 
 /// In such a state what an endpoint sees of its operation, and what it can read afterwards, depend on what it can read before
 /// and on what the operation reveals; and what another can read changes by what it is told readably alone.
 pub fn confidential_as()
-    ensures { (s : State) (e : ℕ) (op : Op) → IsSteady s → is_known s e ≡ true → AreApart s → ConfidentialAs s e op }
+    ensures { (s : State) (e : ℕ) (op : Op) → IsSteady s → is_known s e ≡ true → AreApart s → Confidential (by e op) s }
 {}
 
 /// Each operation gives only the events of its row, only calls of the runner change the public part, and what is told is news
 /// to who is told it, or may repeat; it is about something in its view, and goes into it whole.
 pub fn silence_as()
-    ensures { (s : State) (e : ℕ) (op : Op) → IsSteady s → SilenceAs s e op }
+    ensures { (s : State) (e : ℕ) (op : Op) → IsSteady s → Silence op (by e op) s }
 {}
 
 /// A list of operations, each of an endpoint of the machine: what an endpoint sees of it, and its view after it, depend on its

@@ -24,24 +24,25 @@ ghost use Rattle.ffa_laws.specs.Replay.{Replays};
 ghost use Rattle.ffa_laws.specs.RunIntegrity.{RunIntegrity};
 ghost use Rattle.ffa_laws.specs.Silence.{Silence};
 ghost use Rattle.ffa_laws.specs.Writers.{LeavesTx, OnlyWriters};
-ghost use Rattle.ffa_laws.specs.Isolation.{Integrity, Isolated, LeavesBytes, NeverGrow, OneCall, OneStep, Shown, is_send2};
+ghost use Rattle.ffa_laws.specs.Isolation.{Integrity, Isolated, NeverGrow, OneStep, Shown};
+ghost use Rattle.ffa_laws.specs.Moves.{by_call, by_runner};
 
 /// One call: another endpoint's view changes by the events that the call tells it, and the outcome and the runner's
 /// view afterwards depend on the runner's view alone. A state that is steady or sound stays so, rights don't grow, and
 /// a page that its owner has alone keeps its bytes while another endpoint runs, but for a message into its RX.
 pub fn one_call()
-    ensures call { (s : State) (call : Call) → IsSteady s → OneCall s call }
+    ensures call { (s : State) (call : Call) → IsSteady s → OneStep (by_call call) s }
     ensures steady { (s : State) (call : Call) → IsSteady s → IsSteady (serve s call).state }
     ensures sound { (s : State) (call : Call) → IsSoundState s → IsSoundState (serve s call).state }
     ensures never_grow { (s : State) (call : Call) → IsSteady s → NeverGrow s (serve s call).state }
-    ensures integrity { (s : State) (call : Call) → IsSteady s → LeavesBytes (is_send2 call) s (serve s call).state }
+    ensures integrity { (s : State) (call : Call) → IsSteady s → Integrity (by_call call) s }
 {}
 
 /// One operation: another endpoint's view changes by the events that the operation tells it, and the outcome and the
 /// runner's view afterwards depend on the runner's view alone. Rights don't grow, and a state that is steady or sound
 /// stays so.
 pub fn one_step()
-    ensures step { (s : State) (op : Op) → IsSteady s → OneStep s op }
+    ensures step { (s : State) (op : Op) → IsSteady s → OneStep (by_runner op) s }
     ensures never_grow { (s : State) (op : Op) → IsSteady s → NeverGrow s (step s op).state }
     ensures steady { (s : State) (op : Op) → IsSteady s → IsSteady (step s op).state }
     ensures sound { (s : State) (op : Op) → IsSoundState s → IsSoundState (step s op).state }
@@ -62,7 +63,7 @@ pub fn rights_never_grow()
 
 /// A page that its owner has alone keeps its bytes while another endpoint runs, but for a message into its RX.
 pub fn integrity()
-    ensures { (s : State) (op : Op) → IsSteady s → Integrity s op }
+    ensures { (s : State) (op : Op) → IsSteady s → Integrity (by_runner op) s }
 {}
 
 /// A page that an endpoint has alone is after a run what it was, and its own alone, where the endpoint didn't run and,
@@ -74,13 +75,13 @@ pub fn run_integrity()
 /// The bytes of a page change only where the runner may write to it before, where it reclaims the page and may write to
 /// it then, or where an indirect message fills its receiver's RX.
 pub fn only_writers()
-    ensures { (s : State) (op : Op) → IsSoundState s → OnlyWriters s op }
+    ensures { (s : State) (op : Op) → IsSoundState s → OnlyWriters (by_runner op) s }
 {}
 
 /// In a state in which nobody is offered what it sent itself, only an endpoint's own calls change its access: which of
 /// them may give, and which may take. That nobody is offered what it sent itself holds at first, and stays so.
 pub fn own_access()
-    ensures access { (s : State) (op : Op) → IsSteady s → AreApart s → OwnAccess s op }
+    ensures access { (s : State) (op : Op) → IsSteady s → AreApart s → OwnAccess (by_runner op) s }
     ensures stays { (s : State) (op : Op) → AreApart s → AreApart (step s op).state }
     ensures first { (worlds : Worlds) (base tables blocks : ℕ) (es : List Endpoint) → AreApart (first worlds base tables blocks es) }
 {}
@@ -90,7 +91,7 @@ pub fn own_access()
 /// nobody is offered what it sent itself. The bytes of a page are in none of these while it has no access to the page:
 /// while it has lent it away, or is offered it and hasn't retrieved it.
 pub fn confidential()
-    ensures step { (s : State) (op : Op) → IsSteady s → AreApart s → Confidential s op }
+    ensures step { (s : State) (op : Op) → IsSteady s → AreApart s → Confidential (by_runner op) s }
     ensures run { (s : State) (ops : List Op) → IsSteady s → RunConfidential s ops }
 {}
 
@@ -119,7 +120,7 @@ pub fn loans()
 /// its own bitmaps, and the transaction whose pages are zeroed. And all that an event says, but for a message, goes into
 /// the view: no page is told that the ranges of a transaction don't name, no byte that has no room in RX, no bit twice.
 pub fn silence()
-    ensures { (s : State) (op : Op) → IsSteady s → Silence s op }
+    ensures { (s : State) (op : Op) → IsSteady s → Silence op (by_runner op) s }
 {}
 
 /// What isolation asks of a state holds of every sound state. Where worlds are told apart, the normal world has no access there

@@ -8,17 +8,20 @@ ghost use Rattle.ffa_model.specs.declared.operation.Act.{Act};
 ghost use Rattle.ffa_model.specs.declared.operation.Op.{Op};
 ghost use Rattle.ffa_model.specs.First.{first, first_held};
 ghost use Rattle.ffa_model.specs.OneChain.{IsOneChain, IsSimple};
-ghost use Rattle.ffa_model.specs.Processors.{ArePlaced, Processors, Shared, are_there, effected, interrupt, shared_after_all, step_on, step_resuming, turned};
+ghost use Rattle.ffa_model.specs.Processors.{ArePlaced, Processors, Shared, are_there, effected, interrupt, on, shared_after_all, step_on, step_resuming, turned};
 ghost use Rattle.ffa_model.specs.RunStates.{Schedule, schedule_of};
 ghost use Rattle.ffa_model.specs.Sound.{IsSound};
 ghost use Rattle.ffa_model.specs.SoundState.{IsSoundState};
 ghost use Rattle.ffa_model.specs.State.{State};
 ghost use Rattle.ffa_model.specs.Step.{step};
-ghost use Rattle.ffa_laws.specs.Isolation.{NeverGrow};
-ghost use Rattle.ffa_laws.specs.OwnAccess.{AreApart};
-ghost use Rattle.ffa_laws.specs.Processors.{ConfidentialInterrupt, ConfidentialOn, HasRunner, IntegrityOn, OneEffect, OneInterrupt, OneOperation, OnlyWritersOn, OwnAccessOn, SilenceOn};
+ghost use Rattle.ffa_laws.specs.Isolation.{Integrity, NeverGrow, OneStep};
+ghost use Rattle.ffa_laws.specs.OwnAccess.{AreApart, OwnAccess};
+ghost use Rattle.ffa_laws.specs.Processors.{ConfidentialInterrupt, HasRunner, OneInterrupt, on_processor, resuming};
 ghost use Rattle.ffa_laws.specs.ProcessorRuns.{IsSoundShared, IsolatedOn, Turn, are_possible, as_turns, turns_after};
+ghost use Rattle.ffa_laws.specs.Readable.{Confidential};
+ghost use Rattle.ffa_laws.specs.Silence.{IsHeard, Silence};
 ghost use Rattle.ffa_laws.specs.Steady.{IsSteady};
+ghost use Rattle.ffa_laws.specs.Writers.{OnlyWriters};
 
 /// An interrupt: what others learn is in its events, and rights, tables and bytes stay. A sound state stays so.
 pub fn one_interrupt()
@@ -28,7 +31,7 @@ pub fn one_interrupt()
 
 /// One operation where partitions may be preempted: the laws of a step hold of it.
 pub fn one_effect()
-    ensures effect { (s : State) (op : Op) → IsSteady s → OneEffect s op }
+    ensures effect { (s : State) (op : Op) → IsSteady s → OneStep (resuming op) s }
     ensures never_grow { (s : State) (op : Op) → IsSteady s → NeverGrow s (step_resuming s op).state }
     ensures sound { (s : State) (op : Op) → IsSoundState s → IsSoundState (step_resuming s op).state }
 {}
@@ -36,7 +39,7 @@ pub fn one_effect()
 /// One operation of a processor: the laws of a step hold of it. A sound state stays so, and who runs where fits together.
 pub fn one_operation()
     ensures operation { (processors : Processors) (p : ℕ) (s : State) (op : Op) → IsSteady s
-        → HasRunner processors p s → OneOperation processors p s op }
+        → HasRunner processors p s → OneStep (on_processor processors p op) s }
     ensures never_grow { (processors : Processors) (p : ℕ) (s : State) (op : Op) → IsSteady s
         → HasRunner processors p s → NeverGrow s (step_on processors p s op).state }
     ensures sound { (processors : Processors) (p : ℕ) (s : State) (op : Op) → p < length processors.runners
@@ -51,15 +54,16 @@ pub fn one_operation()
 /// interrupt changes what can be read by what it tells alone.
 pub fn rights_on()
     ensures integrity { (processors : Processors) (p : ℕ) (s : State) (op : Op) → p < length processors.runners
-        → ArePlaced processors s → IsSoundState s → IntegrityOn processors p s op }
+        → ArePlaced processors s → IsSoundState s → Integrity (on_processor processors p op) s }
     ensures only_writers { (processors : Processors) (p : ℕ) (s : State) (op : Op) → p < length processors.runners
-        → ArePlaced processors s → IsSoundState s → OnlyWritersOn processors p s op }
+        → ArePlaced processors s → IsSoundState s → OnlyWriters (on_processor processors p op) s }
     ensures own_access { (processors : Processors) (p : ℕ) (s : State) (op : Op) → p < length processors.runners
-        → ArePlaced processors s → IsSoundState s → AreApart s → OwnAccessOn processors p s op }
+        → ArePlaced processors s → IsSoundState s → AreApart s → OwnAccess (on_processor processors p op) s }
     ensures silence { (processors : Processors) (p : ℕ) (s : State) (op : Op) → p < length processors.runners
-        → ArePlaced processors s → IsSoundState s → SilenceOn processors p s op }
+        → ArePlaced processors s → IsSoundState s
+        → Silence op (resuming op) (on processors p s) × IsHeard (on_processor processors p op) s }
     ensures confidential { (processors : Processors) (p : ℕ) (s : State) (op : Op) → p < length processors.runners
-        → ArePlaced processors s → IsSoundState s → AreApart s → ConfidentialOn processors p s op }
+        → ArePlaced processors s → IsSoundState s → AreApart s → Confidential (on_processor processors p op) s }
     ensures interrupt { (processors : Processors) (p : ℕ) (s : State) → ConfidentialInterrupt processors p s }
 {}
 

@@ -26,10 +26,7 @@ use Rattle.ffa_model.specs.SoundState.{IsSoundState}
 use Rattle.ffa_model.specs.State.{State}
 use Rattle.ffa_model.proofs.Processors.{moved-goes, placed-still, turned-placed}
 use Rattle.ffa_laws.specs.Isolation.{NeverGrow}
-use Rattle.ffa_laws.specs.OwnAccess.{AreApart}
-use Rattle.ffa_laws.specs.Processors.{ConfidentialOn, IntegrityOn, OneOperation, OnlyWritersOn, OwnAccessOn, SilenceOn}
 use Rattle.ffa_laws.proofs.ProcessorLaws.{effect-elsewhere, interrupt-elsewhere}
-use Rattle.ffa_laws.proofs.ProcessorRights.{confidential-on, integrity-on, only-writers-on, own-access-on, silence-on}
 use Rattle.ffa_laws.proofs.SoundOperations.{elsewhere-step}
 use Rattle.ffa_laws.proofs.SoundSteady.{sound-steady}
 use Rattle.ffa_spmc.specs.declared.run.Run.{Run}

@@ -13,6 +13,7 @@ use Rattle.ffa_model.specs.Memory.{access_at, page_of_address}
 use Rattle.ffa_model.specs.State.{Party, State}
 use Rattle.ffa_model.specs.Step.{step}
 use Rattle.ffa_model.specs.Walk.{mapped_answer}
+use Rattle.ffa_laws.specs.Moves.{by_runner}
 use Rattle.ffa_laws.specs.OwnAccess.{IsSameOrNone, OwnAccess}
 use Rattle.ffa_laws.proofs.Kept.{step-fixed}
 use Rattle.ffa_physmem.specs.Moments.{Only}
@@ -122,7 +123,7 @@ pub mixed-alike : (m n : Managed) → IsManaged m → IsManaged n → length n.s
 mixed-alike m n was is parties placed size same = mixed m n was is parties placed size 0 (λ e p _. same e p) (λ p. inr (inr (same 0 p)))
 
 -- of an operation
-pub op-mixed : (m n : Managed) (op : Op) → IsManaged m → IsManaged n → n.state ≡ (step m.state op).state → OwnAccess m.state op
+pub op-mixed : (m n : Managed) (op : Op) → IsManaged m → IsManaged n → n.state ≡ (step m.state op).state → OwnAccess (by_runner op) m.state
     → AreMoments m.state m.ram n.ram m.past n.past → TablesRest m.state m.ram m.past → StayMixed m.state m.ram n.ram m.past n.past × TablesRest n.state n.ram n.past
 op-mixed m n op was is state own =
     mixed m n was is
