@@ -1,17 +1,16 @@
 -- SPDX-License-Identifier: MIT OR Apache-2.0
 -- A machine's own certificate, as C is told it, is one that its tables give.
-use Rattle.std.proofs.Common.{◌≡◌, ◌∙◌, ℕ, ◌+◌, ◌-◌, ◌*◌, ◌/◌, ◌^◌, ◌<◌, ◌≤◌, Bool, true, false, List, [], ◌∷◌, ◌++◌, length, map, Option, None, Some, refl, sym, ap, subst, arith, inl, inr, append-nil, append_assoc}
-use Rattle.std.specs.Prelude.{◌&&◌, ◌==◌, if◌then◌else◌, nat_le, nat_lt, slice_index_or}
+use Rattle.std.proofs.Common.{◌≡◌, ◌∙◌, ℕ, ◌+◌, ◌-◌, ◌/◌, ◌^◌, ◌<◌, ◌≤◌, Bool, true, false, List, [], ◌∷◌, ◌++◌, length, map, Option, None, Some, refl, sym, ap, subst, arith, inl, inr, append-nil, append_assoc}
+use Rattle.std.specs.Prelude.{◌&&◌, ◌==◌, if◌then◌else◌, nat_le, slice_index_or}
 use Rattle.std.specs.Option.{option_and_then, option_map}
 use Rattle.std.proofs.lemmas.Bool.{cases_lt, lt-ltb}
 use Rattle.std.proofs.lemmas.Bool.Decides.{nat_tests}
-use Rattle.std.proofs.lemmas.List.{get_or_past}
 use Rattle.ffa_model.specs.declared.certificate.CertRun.{CertRun}
 use Rattle.ffa_model.specs.declared.limits.TheConstants.{MOST_ENDPOINTS}
 use Rattle.ffa_model.specs.declared.rights.Data as rights
 use Rattle.ffa_model.specs.declared.rights.Data.TheVariants.{Ro, Rw}
 use Rattle.ffa_model.specs.declared.rights.Rights.{Rights}
-use Rattle.ffa_model.specs.Access.{access, right_of, transaction_at}
+use Rattle.ffa_model.specs.Access.{access}
 use Rattle.ffa_model.specs.Agreement.{Agrees, root, roots_of}
 use Rattle.ffa_model.specs.Certificate.{certificate}
 use Rattle.ffa_model.specs.Certified.{IsCertified, access_in, access_to, are_in_order, certified_answer}
@@ -22,6 +21,7 @@ use Rattle.ffa_model.specs.State.{State}
 use Rattle.ffa_model.specs.Walk.{is_in_ram, mapped_answer, walk}
 use Rattle.ffa_model.proofs.Certificates.{certificate-access, certificate-order}
 use Rattle.ffa_model.proofs.Listed.{get_or-listed, length-listed}
+use Rattle.ffa_reasons.proofs.Audits.{access_at-is}
 use Rattle.ffa_c.specs.declared.cert_run.CCertRun.{CCertRun}
 use Rattle.ffa_c.specs.Audit.{access_given, all_given, run_given}
 use Rattle.ffa_c.specs.Border.{access_code, exec_code, level_code}
@@ -83,44 +83,11 @@ bare-certified ram roots runs h = record {
 -- ---- the certificate of a state with which RAM agrees
 
 module _ (ram : Ram) (s : State) (agree : Agrees ram s) (few : length s.parties ≤ MOST_ENDPOINTS) where
-  access-past : (e p : ℕ) → length s.pages ≤ p → access s e p ≡ None
-  access-past e p past = ap (λ page. right_of e page (transaction_at s p)) (get_or_past s.pages p None past)
-
-  access_at-is : (i address : ℕ) → address < 2 ^ 32
-      → access_at s (identifier i) address ≡ (if is_in_ram ram address then access s (identifier i) ((address - ram.base) / 4096) else None)
-  access_at-is i address low =
-      let base = agree.place in
-      let size = agree.size in
-      let q : ℕ = (address - ram.base) / 4096 in
-      elim (cases_lt address ram.base) [
-        | inl under ↦
-            (let outside : is_in_ram ram address ≡ false = grind (arith, nat_tests) in
-            let test : (nat_le s.ram_base address && nat_lt address (2 ^ 32)) ≡ false = grind (arith, nat_tests, base) in
-            ap (λ b. option_and_then (access s (identifier i)) (if b then Some ((address - s.ram_base) / 4096) else None)) test
-            ∙ sym (ap (λ b. if b then access s (identifier i) q else None) outside))
-        | inr from ↦
-            (let test : (nat_le s.ram_base address && nat_lt address (2 ^ 32)) ≡ true = grind (arith, nat_tests, base) in
-            let number : (address - s.ram_base) / 4096 ≡ q = ap (λ (b : ℕ). (address - b) / 4096) (sym base) in
-            let here : access_at s (identifier i) address ≡ access s (identifier i) q =
-            ap (λ b. option_and_then (access s (identifier i)) (if b then Some ((address - s.ram_base) / 4096) else None)) test ∙ ap (access s (identifier i)) number in
-            elim (cases_lt q (length ram.pages)) [
-              | inl lt ↦
-                  (let below : address < ram.base + 4096 * length ram.pages = omega arith in
-                  let inside : is_in_ram ram address ≡ true = grind (arith, nat_tests) in
-                  here ∙ sym (ap (λ b. if b then access s (identifier i) q else None) inside))
-              | inr past ↦
-                  (let over : ram.base + 4096 * length ram.pages ≤ address = omega arith in
-                  let outside : is_in_ram ram address ≡ false = grind (arith, nat_tests) in
-                  here ∙ access-past (identifier i) q (subst (λ n. n ≤ q) size past)
-                  ∙ sym (ap (λ b. if b then access s (identifier i) q else None) outside))
-            ])
-      ]
-
   access-certified : (place address : ℕ) → place < length s.parties → address < 2 ^ 32
       → access_at s (identifier place) address ≡ access_to ram (certificate s) place address
   access-certified place address lt low =
       let q : ℕ = (address - ram.base) / 4096 in
-      access_at-is place address low
+      access_at-is ram s agree place address low
       ∙ elim (cases_lt q (length s.pages)) [
         | inl inside ↦
             ap (λ o. if is_in_ram ram address then o else None)
