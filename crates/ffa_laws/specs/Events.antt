@@ -11,7 +11,7 @@ use Rattle.ffa_model.specs.declared.transaction.Range.{Range}
 use Rattle.ffa_model.specs.declared.descriptor.RetrieveDesc.{RetrieveDesc}
 use Rattle.ffa_model.specs.declared.descriptor.RelinquishDesc.{RelinquishDesc}
 use Rattle.ffa_model.specs.declared.operation.Op.{Op}
-use Rattle.ffa_model.specs.declared.operation.Op.TheVariants.{Call, Load, Store, Fetch}
+use Rattle.ffa_model.specs.declared.operation.Op.TheVariants.{Call, Store}
 use Rattle.ffa_model.specs.declared.operation.Outcome.{Outcome}
 use Rattle.ffa_model.specs.declared.operation.Outcome.TheVariants.{Regs}
 use Rattle.ffa_model.specs.declared.call.Call as calls
@@ -148,8 +148,7 @@ opens e s kind (Some r) =
 -- the runner takes what e sent
 abbrev pub taking : Kind → HandleNumber → Identifier → Rights → Event
 taking Donate h f right = Closed h
-taking Lend h f right = Held h f (Some right)
-taking Share h f right = Held h f (Some right)
+taking kind h f right = Held h f (Some right)
 
 abbrev pub takes_from : Identifier → State → RetrieveDesc → Option Transaction → List Event
 takes_from e s d None = []
@@ -220,10 +219,9 @@ call_events e s call =
 -- what an operation of another endpoint tells e
 abbrev pub events : Identifier → State → Op → List Event
 events e s (Call x) = call_events e s (decode x)
-events e s (Load addr size) = []
 events e s (Store addr size value) =
     where_passed (store_fault s addr (size_of size)) (writes e s addr (little_bytes (size_of size) value))
-events e s (Fetch addr) = []
+events e s op = []
 
 -- WHAT AN ENDPOINT SEES
 

@@ -6,7 +6,7 @@ use Rattle.ffa_model.specs.Numbers.{Identifier, PageIndex}
 use Rattle.ffa_model.specs.Lists.{is_in_run}
 use Rattle.ffa_model.specs.declared.operation.Op.{Op}
 use Rattle.ffa_model.specs.declared.operation.Outcome.{Outcome}
-use Rattle.ffa_model.specs.declared.operation.Outcome.TheVariants.{Regs, Data, Done, Fault}
+use Rattle.ffa_model.specs.declared.operation.Outcome.TheVariants.{Regs}
 use Rattle.ffa_model.specs.declared.call.Call as calls
 use Rattle.ffa_model.specs.declared.call.Call.TheVariants.{MsgSend2}
 use Rattle.ffa_model.specs.Rights.{is_within}
@@ -35,9 +35,7 @@ pub record OneStep {Result : Type 0} (m : State → Move Result) (s : State) : T
 -- who runs after an outcome
 abbrev pub runner_after : ℕ → Outcome → ℕ
 runner_after r (Regs runner x) = runner.0
-runner_after r (Data value) = r
-runner_after r Done = r
-runner_after r (Fault fault) = r
+runner_after r outcome = r
 
 -- of the outcomes of a run that r begins, those of e's operations and those that make e run
 abbrev pub shown_to : Identifier → ℕ → List Outcome → List Outcome

@@ -11,8 +11,20 @@ use Rattle.ffa_laws.specs.OwnAccess.{is_call}
 
 abbrev pub by_call : calls.Call → State → Move Outcome
 by_call call s =
-    record { from = s; asks = λ test. test call; after = (serve s call).state; result = (serve s call).outcome; told = λ e. call_events e s call }
+    record {
+      from = s;
+      asks = λ test. test call;
+      after = (serve s call).state;
+      result = (serve s call).outcome;
+      told = λ e. call_events e s call;
+    }
 
 abbrev pub by_runner : Op → State → Move Outcome
 by_runner op s =
-    record { from = s; asks = λ test. is_call test op; after = (step s op).state; result = (step s op).outcome; told = λ e. events e s op }
+    record {
+      from = s;
+      asks = λ test. is_call test op;
+      after = (step s op).state;
+      result = (step s op).outcome;
+      told = λ e. events e s op;
+    }

@@ -2,7 +2,7 @@
 -- What an endpoint may do with a page changes by its own calls alone.
 use Rattle.std.specs.Prelude.{◌≡◌, ◌≢◌, ◌⊎◌, ℕ, Bool, true, false, Option, None, Some}
 use Rattle.ffa_model.specs.declared.operation.Op.{Op}
-use Rattle.ffa_model.specs.declared.operation.Op.TheVariants.{Call, Load, Store, Fetch}
+use Rattle.ffa_model.specs.declared.operation.Op.TheVariants.{Call}
 use Rattle.ffa_model.specs.declared.call.Call as calls
 use Rattle.ffa_model.specs.declared.call.Call.TheVariants.{MemDonate, MemLend, MemShare, MemRetrieve, MemRelinquish, MemReclaim}
 use Rattle.ffa_model.specs.Rights.{is_within}
@@ -38,9 +38,7 @@ is_memory_call call = false
 -- whether an operation is a call of which a test holds
 abbrev pub is_call : (calls.Call → Bool) → Op → Bool
 is_call test (Call x) = test (decode x)
-is_call test (Load addr size) = false
-is_call test (Store addr size value) = false
-is_call test (Fetch addr) = false
+is_call test op = false
 
 -- Nobody is offered what it has sent itself. So it is at first and after each operation, but not in every sound state.
 abbrev pub AreApart : State → Type 0

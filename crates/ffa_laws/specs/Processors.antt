@@ -43,7 +43,13 @@ pub record OneInterrupt (s : State) : Type 0 where
 -- one operation of the runner where partitions may be preempted
 abbrev pub resuming : Op → State → Move Effect
 resuming op s =
-    record { from = s; asks = λ test. is_call test op; after = (step_resuming s op).state; result = (step_resuming s op).effect; told = λ e. events_resuming e s op }
+    record {
+      from = s;
+      asks = λ test. is_call test op;
+      after = (step_resuming s op).state;
+      result = (step_resuming s op).effect;
+      told = λ e. events_resuming e s op;
+    }
 
 -- PROCESSORS
 
@@ -65,4 +71,6 @@ on_processor processors p op s =
 pub record ConfidentialInterrupt (processors : Processors) (p : ℕ) (s : State) : Type 0 where
   pub outcome : (t : State) → readable (on processors p s).runner t ≡ readable (on processors p s).runner s
       → (interrupt_on processors p t).outcome ≡ (interrupt_on processors p s).outcome
-  pub others : (e : ℕ) → readable e (interrupt_on processors p s).state ≡ apply_all e (readable e s) (all_readably e s (interrupt_events_on e processors p s))
+  pub others :
+      (e : ℕ) → readable e (interrupt_on processors p s).state
+      ≡ apply_all e (readable e s) (all_readably e s (interrupt_events_on e processors p s))

@@ -2,14 +2,13 @@
 -- One operation of any endpoint, whoever runs: while one processor runs the runner, another may run another endpoint.
 use Rattle.std.specs.Prelude.{ℕ, ◌==◌, List, [], ◌∷◌, if◌then◌else◌}
 use Rattle.ffa_model.specs.declared.operation.Op.{Op}
-use Rattle.ffa_model.specs.declared.operation.Op.TheVariants.{Call, Load, Store, Fetch}
+use Rattle.ffa_model.specs.declared.operation.Op.TheVariants.{Call}
 use Rattle.ffa_model.specs.declared.operation.ErrorCode.TheVariants.{Busy}
 use Rattle.ffa_model.specs.declared.operation.Outcome.TheVariants.{Regs}
 use Rattle.ffa_model.specs.declared.call.Reply.TheVariants.{Error}
 use Rattle.ffa_model.specs.Numbers.{Identifier}
 use Rattle.ffa_model.specs.State.{State}
 use Rattle.ffa_model.specs.Calls.{Stepped, encode}
-use Rattle.ffa_model.specs.Memory.{load, store, fetch}
 use Rattle.ffa_model.specs.Step.{step}
 
 -- the state in which e runs in place of the runner
@@ -29,9 +28,7 @@ with_runner runner done = record done { state = as_run_by runner done.state }
 -- a second definition, which a proof must compare with the first.
 abbrev pub step_elsewhere : State → Identifier → Op → Stepped
 step_elsewhere s e (Call x) = busy e s
-step_elsewhere s e (Load addr size) = with_runner s.runner (load (as_run_by e s) addr size)
-step_elsewhere s e (Store addr size value) = with_runner s.runner (store (as_run_by e s) addr size value)
-step_elsewhere s e (Fetch addr) = with_runner s.runner (fetch (as_run_by e s) addr)
+step_elsewhere s e op = with_runner s.runner (step (as_run_by e s) op)
 
 -- one operation of e
 abbrev pub step_as : State → Identifier → Op → Stepped

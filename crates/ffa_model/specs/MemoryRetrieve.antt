@@ -9,7 +9,7 @@ use Rattle.ffa_model.specs.declared.call.Reply.TheVariants.{Retrieved}
 use Rattle.ffa_model.specs.declared.descriptor.RetrieveDesc.{RetrieveDesc}
 use Rattle.ffa_model.specs.declared.rights.Rights.{Rights}
 use Rattle.ffa_model.specs.declared.rights.Kind.{Kind}
-use Rattle.ffa_model.specs.declared.rights.Kind.TheVariants.{Share, Lend, Donate}
+use Rattle.ffa_model.specs.declared.rights.Kind.TheVariants.{Donate}
 use Rattle.ffa_model.specs.declared.transaction.Range.{Range}
 use Rattle.ffa_model.specs.Numbers.{HandleNumber, Identifier}
 use Rattle.ffa_model.specs.Rights.{is_at_most, is_donate, is_same_kind}
@@ -62,8 +62,7 @@ retrieve_guards scene e transfer d = transfer_guards scene.buffers e transfer ++
 -- what is open after e has retrieved the transaction of a handle: e holds the right, and of a donate nothing is open
 abbrev pub taken_in : Kind → OpenTransactions → HandleNumber → Transaction → Identifier → Rights → OpenTransactions
 taken_in Donate o h t e right = closed o h
-taken_in Lend o h t e right = with_transaction o h (holding t e right)
-taken_in Share o h t e right = with_transaction o h (holding t e right)
+taken_in kind o h t e right = with_transaction o h (holding t e right)
 
 -- what e is told of what it now holds
 abbrev pub response_to : HandleNumber → Transaction → Identifier → Rights → ResponseRecord

@@ -12,7 +12,7 @@ use Rattle.ffa_model.specs.declared.operation.Act.TheVariants.{Operate, Interrup
 use Rattle.ffa_model.specs.declared.operation.Effect.{Effect}
 use Rattle.ffa_model.specs.declared.operation.Effect.TheVariants as effects
 use Rattle.ffa_model.specs.declared.operation.Op.{Op}
-use Rattle.ffa_model.specs.declared.operation.Op.TheVariants.{Call, Load, Store, Fetch}
+use Rattle.ffa_model.specs.declared.operation.Op.TheVariants.{Call}
 use Rattle.ffa_model.specs.declared.operation.Outcome.TheVariants.{Done}
 use Rattle.ffa_model.specs.declared.schedule.Status.{Status}
 use Rattle.ffa_model.specs.declared.schedule.Status.TheVariants.{Blocked, Preempted, RunsElsewhere}
@@ -49,9 +49,7 @@ resumed_by_call s call = None
 -- the preempted partition that goes on by an operation, if one does
 abbrev pub resumed_by : State → Op → Option ℕ
 resumed_by s (Call x) = resumed_by_call s (decode x)
-resumed_by s (Load addr size) = None
-resumed_by s (Store addr size value) = None
-resumed_by s (Fetch addr) = None
+resumed_by s op = None
 
 pub record Effected : Type 0 where
   pub state : State

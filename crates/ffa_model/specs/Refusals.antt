@@ -5,15 +5,14 @@ use Rattle.ffa_model.specs.declared.call.Call.{Call}
 use Rattle.ffa_model.specs.declared.call.Call.TheVariants.{DirectRequest, DirectResponse}
 use Rattle.ffa_model.specs.declared.call.Reply.{Reply}
 use Rattle.ffa_model.specs.declared.operation.Outcome.{Outcome}
-use Rattle.ffa_model.specs.declared.operation.Outcome.TheVariants.{Regs, Data, Done, Fault}
+use Rattle.ffa_model.specs.declared.operation.Outcome.TheVariants.{Regs, Fault}
 use Rattle.ffa_model.specs.declared.function.TheConstants.{FFA_ERROR}
 use Rattle.ffa_model.specs.Calls.{encode}
 
 abbrev pub is_refusal : Outcome → Bool
 is_refusal (Regs runner registers) = slice_index registers 0 == FFA_ERROR
-is_refusal (Data value) = false
-is_refusal Done = false
 is_refusal (Fault fault) = true
+is_refusal outcome = false
 
 -- a reply that is seen as FFA_ERROR
 abbrev pub is_error : Reply → Bool

@@ -21,18 +21,15 @@ may_fetch (Some right) = right.exec
 
 abbrev pub is_share : Kind → Bool
 is_share Share = true
-is_share Lend = false
-is_share Donate = false
+is_share kind = false
 
 abbrev pub is_lend : Kind → Bool
-is_lend Share = false
 is_lend Lend = true
-is_lend Donate = false
+is_lend kind = false
 
 abbrev pub is_donate : Kind → Bool
-is_donate Share = false
-is_donate Lend = false
 is_donate Donate = true
+is_donate kind = false
 
 abbrev pub is_same_kind : Kind → Kind → Bool
 is_same_kind Share k = is_share k

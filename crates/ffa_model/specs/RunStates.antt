@@ -37,49 +37,33 @@ first_schedule endpoints =
     record { runner = 0; statuses = listed endpoints first_status; works = replicate endpoints None }
 
 abbrev pub is_waiting : Status → Bool
-is_waiting Running = false
 is_waiting Waiting = true
-is_waiting Yielded = false
-is_waiting Blocked = false
-is_waiting Preempted = false
-is_waiting RunsElsewhere = false
+is_waiting status = false
 
 abbrev pub is_yielded : Status → Bool
-is_yielded Running = false
-is_yielded Waiting = false
 is_yielded Yielded = true
-is_yielded Blocked = false
-is_yielded Preempted = false
-is_yielded RunsElsewhere = false
+is_yielded status = false
 
 abbrev pub is_preempted : Status → Bool
-is_preempted Running = false
-is_preempted Waiting = false
-is_preempted Yielded = false
-is_preempted Blocked = false
 is_preempted Preempted = true
-is_preempted RunsElsewhere = false
+is_preempted status = false
 
 -- whether an endpoint has stopped in the midst of its work, with which it may go on
 abbrev pub is_stopped : Status → Bool
-is_stopped Running = false
-is_stopped Waiting = false
 is_stopped Yielded = true
-is_stopped Blocked = false
 is_stopped Preempted = true
 is_stopped RunsElsewhere = true
+is_stopped status = false
 
 -- whether the normal world gave the cycles
 abbrev pub is_run : Option Work → Bool
-is_run None = false
 is_run (Some Run) = true
-is_run (Some (Request by)) = false
+is_run work = false
 
 -- the endpoint whose request the work answers
 abbrev pub requester : Option Work → Option Identifier
-requester None = None
-requester (Some Run) = None
 requester (Some (Request by)) = Some by.0
+requester work = None
 
 abbrev pub is_endpoint : Identifier → Option ℕ → Bool
 is_endpoint e None = false
@@ -109,10 +93,7 @@ finished schedule e = with_work (switched schedule Waiting e) schedule.runner No
 abbrev pub given_cycles : Schedule → Identifier → Status → Schedule
 given_cycles schedule e Waiting = with_work (switched schedule Blocked e) e (Some Run)
 given_cycles schedule e Yielded = switched schedule Blocked e
-given_cycles schedule e Running = schedule
-given_cycles schedule e Blocked = schedule
-given_cycles schedule e Preempted = schedule
-given_cycles schedule e RunsElsewhere = schedule
+given_cycles schedule e status = schedule
 
 -- the checks of each call, in order
 
@@ -167,11 +148,7 @@ scheduled function partition = Scheduled function (record { 0 = partition })
 -- guard refuses it
 abbrev pub run_reply : Identifier → Status → Reply
 run_reply target Waiting = scheduled FFA_RUN target
-run_reply target Yielded = success 0 0
-run_reply target Running = success 0 0
-run_reply target Blocked = success 0 0
-run_reply target Preempted = success 0 0
-run_reply target RunsElsewhere = success 0 0
+run_reply target status = success 0 0
 
 abbrev pub wait_reply : Identifier → Reply
 wait_reply runner = scheduled FFA_MSG_WAIT runner

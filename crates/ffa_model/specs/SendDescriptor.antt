@@ -54,13 +54,11 @@ page_total ranges = sum_by (λ (r : Range). r.pages) ranges
 -- bit 0 of the flags asks for zeros, but not in a share
 abbrev pub most_flags : Kind → ℕ
 most_flags Share = 0
-most_flags Lend = 1
-most_flags Donate = 1
+most_flags kind = 1
 
 abbrev pub most_receivers : Kind → ℕ
-most_receivers Share = MOST_RECEIVERS
-most_receivers Lend = MOST_RECEIVERS
 most_receivers Donate = 1
+most_receivers kind = MOST_RECEIVERS
 
 -- a share and a lend to several say what memory it is; a donate and a lend to one leave that to the receiver
 abbrev pub attributes_of : Kind → ℕ → ℕ
@@ -126,9 +124,8 @@ pub record Send (kind : Kind) (descriptor : Versioned) (send : SendRecord) : Typ
 -- THE SAME, computed: what the fields say, and whether all conditions hold
 
 abbrev pub is_grant : Kind → ℕ → Bool
-is_grant Share permissions = (permissions == 1) || (permissions == 2)
-is_grant Lend permissions = (permissions == 1) || (permissions == 2)
 is_grant Donate permissions = permissions == 0
+is_grant kind permissions = (permissions == 1) || (permissions == 2)
 
 abbrev pub is_access : Kind → Versioned → ℕ → Bool
 is_access kind descriptor at =

@@ -8,7 +8,7 @@ use Rattle.ffa_model.specs.declared.limits.TheConstants.{MOST_PROCESSORS}
 use Rattle.ffa_model.specs.declared.operation.Effect.{Effect}
 use Rattle.ffa_model.specs.declared.operation.Effect.TheVariants as effects
 use Rattle.ffa_model.specs.declared.operation.Op.{Op}
-use Rattle.ffa_model.specs.declared.operation.Op.TheVariants.{Call, Load, Store, Fetch}
+use Rattle.ffa_model.specs.declared.operation.Op.TheVariants.{Call}
 use Rattle.ffa_model.specs.declared.operation.Outcome.TheVariants.{Regs}
 use Rattle.ffa_model.specs.Bits.{high_half, low_half}
 use Rattle.ffa_model.specs.Calls.{encode, success}
@@ -32,9 +32,7 @@ with_one_context x =
 
 abbrev pub in_one_context : Op → Op
 in_one_context (Call x) = Call (with_one_context x)
-in_one_context (Load addr size) = Load addr size
-in_one_context (Store addr size value) = Store addr size value
-in_one_context (Fetch addr) = Fetch addr
+in_one_context op = op
 
 -- whether a call has one of the numbers of calls that ask about notices or name contexts
 abbrev pub is_about_notices : Op → Bool
@@ -59,9 +57,7 @@ notice_in x =
 -- by whoever runs: these are the normal world's calls
 abbrev pub notice_asked : Identifier → Op → Option Notice
 notice_asked runner (Call x) = if runner == 0 then notice_in x else None
-notice_asked runner (Load addr size) = None
-notice_asked runner (Store addr size value) = None
-notice_asked runner (Fetch addr) = None
+notice_asked runner op = None
 
 abbrev pub notice_registers : Told → Notifications → Notice → List ℕ
 notice_registers told n (Info is_wide) = info is_wide (untold told n)
@@ -75,6 +71,5 @@ noticed told n (Some notice) effect = effects.Outcome (Regs (record { 0 = 0 }) (
 
 -- and what the normal world has been told of then
 abbrev pub told_after : Told → Notifications → Option Notice → Told
-told_after told n None = still_told told n
-told_after told n (Some Features) = still_told told n
 told_after told n (Some (Info is_wide)) = n.pending
+told_after told n notice = still_told told n

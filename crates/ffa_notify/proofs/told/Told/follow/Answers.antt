@@ -1,7 +1,5 @@
 -- SPDX-License-Identifier: MIT OR Apache-2.0
-use Rattle.std.proofs.Common.{◌≡◌, ◌∙◌, sym, subst}
-use Rattle.std.specs.FinSet as finite_set
-use Rattle.ffa_notify.specs.Notices.{Told}
+use Rattle.std.proofs.Common.{◌∙◌, sym}
 use Rattle.ffa_notify.proofs.ToldWords.{none-common}
 use Rattle.ffa_notify.proofs.told.Told.follow.Goals as goal
 

@@ -1,7 +1,6 @@
 -- SPDX-License-Identifier: MIT OR Apache-2.0
-use Rattle.std.proofs.Common.{◌∙◌, ap, sym}
+use Rattle.std.proofs.Common.{◌∙◌, sym}
 use Rattle.std.specs.FinSet as finite_set
-use Rattle.std.specs.Prelude.{not}
 use Rattle.std.proofs.lemmas.Bool.{not-false}
 use Rattle.ffa_notify.proofs.ToldWords.{none-told, words-common}
 use Rattle.ffa_notify.proofs.told.Told.keep_pending.Goals as goal
