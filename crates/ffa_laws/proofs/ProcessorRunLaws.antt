@@ -1,9 +1,11 @@
 -- SPDX-License-Identifier: MIT OR Apache-2.0
 -- The laws of a list of operations and interrupts of several processors, and of stores meanwhile, by induction.
-use Rattle.std.proofs.Common.{◌≡◌, ◌≢◌, ◌∙◌, ℕ, ◌<◌, Bool, true, false, cond, List, [], ◌∷◌, ◌++◌, length, set, Option, Some, None, refl, sym, ap, subst, length-set, ◌==◌, ◌&&◌, ◌%◌, nat_lt, inl, inr}
+use Rattle.std.proofs.Common.{◌≡◌, ◌≢◌, ◌⊎◌, ◌∙◌, get_or, get_or-set_other, get_or-set_same, ℕ, ◌<◌, Bool, true, false, cond, List, [], ◌∷◌, ◌++◌, length, set, Option, Some, None, refl, sym, ap, subst, length-set, ◌==◌, ◌&&◌, ◌%◌, nat_lt, inl, inr}
 use Rattle.byteorder.specs.Endian.{little_bytes}
-use Rattle.std.proofs.lemmas.Bool.{and_from, and_parts, cases_eq, eq-eqb, eqb-true, false≢true, ltb-true, true≢false}
-use Rattle.std.proofs.lemmas.List.{append_assoc, map-append}
+use Rattle.std.proofs.lemmas.Bool.{and_from, and_parts, cases_Bool, cases_eq, eq-eqb, eqb-true, false≢true, ltb-false, ltb-true, true≢false}
+use Rattle.std.proofs.lemmas.Option.{none-some, same_Some}
+use Rattle.ffa_model.specs.declared.schedule.Status.TheVariants.{Blocked, Preempted}
+use Rattle.std.proofs.lemmas.List.{append_assoc, get_or_past, map-append}
 use Rattle.std.proofs.lemmas.List.Folds.{list_all-append}
 use Rattle.ffa_model.specs.declared.call.Call as calls
 use Rattle.ffa_model.specs.declared.call.Call.TheVariants.{Run}
@@ -24,27 +26,28 @@ use Rattle.ffa_model.specs.Rights.{may_store}
 use Rattle.ffa_model.specs.RunStates.{Schedule, schedule_of}
 use Rattle.ffa_model.specs.Step.{step}
 use Rattle.ffa_model.specs.SoundState.{IsSoundState}
-use Rattle.ffa_model.specs.State.{State, Party, is_known, is_known_among}
+use Rattle.ffa_model.specs.State.{State, Party, is_known, is_known_among, is_partition_among}
 use Rattle.ffa_model.specs.Calls.{Stepped}
 use Rattle.ffa_model.specs.Processors.{Effected, Processors, SameElsewhere, Shared, acted, are_there, effected, interrupt, moved_to, noted, may_resume, on, resumed_by, resumed_by_call, runner_on, shared_after, shared_after_all, state_on, step_resuming, turned}
 use Rattle.ffa_laws.specs.Events.{Event, Item, Own, Told, apply, apply_all, message, messages, public_change}
 use Rattle.ffa_laws.specs.Elsewhere.{events_as}
-use Rattle.ffa_laws.specs.Processors.{events_resuming, interrupt_events}
-use Rattle.ffa_laws.specs.ProcessorRuns.{Acts, IsSoundShared, IsolatedOn, Turn, Writes, are_possible, as_turns, as_writes, is_possible, is_store, items_in, items_of, items_on, outcomes_of, seen_in, seen_of, seen_on, told, turn_after, turns_after}
+use Rattle.ffa_laws.specs.Processors.{HasRunner, events_resuming, interrupt_events}
+use Rattle.ffa_laws.specs.ProcessorRuns.{Acts, IsSoundShared, IsSteadyShared, IsolatedOn, Turn, Writes, are_possible, as_turns, as_writes, is_possible, is_store, items_in, items_of, items_on, outcomes_of, seen_in, seen_of, seen_on, told, turn_after, turns_after}
 use Rattle.ffa_laws.specs.ElsewhereRuns.{are_known}
 use Rattle.ffa_laws.specs.Steady.{IsSteady}
 use Rattle.ffa_laws.specs.Stores.{AreStores}
 use Rattle.ffa_laws.specs.View.{view}
 use Rattle.ffa_laws.specs.Isolation.{NeverGrow}
+use Rattle.ffa_model.proofs.Places.{partition-known}
 use Rattle.ffa_model.proofs.Processors.{placed-still}
-use Rattle.ffa_laws.proofs.ElsewhereLaws.{fixed-step_as, never_grows_as, one_step_as, own-step_as, sound-step_as, step_as-rests, step_as-runs}
+use Rattle.ffa_laws.proofs.ElsewhereLaws.{fixed-step_as, never_grows_as, one_step_as, own-step_as, sound-step_as, steady-step_as, step_as-rests, step_as-runs}
 use Rattle.ffa_laws.proofs.ElsewhereRunLaws.{grows-through}
 use Rattle.ffa_laws.proofs.Form.{accessed-kept, viewed}
 use Rattle.ffa_laws.proofs.SoundLaws.{same-elsewhere}
 use Rattle.ffa_laws.proofs.Growth.{never_grow}
 use Rattle.ffa_laws.proofs.Kept.{step-fixed}
-use Rattle.ffa_laws.proofs.Laws.{own-step}
-use Rattle.ffa_laws.proofs.ProcessorLaws.{has-runner, interrupt-placed, interrupt-sound, interrupt_never_grows, on-grows, on-sound-state, on-told, one_effect, one_interrupt, operation-placed, operation-sound, operation_never_grows, resumed-view, taken}
+use Rattle.ffa_laws.proofs.Laws.{own-step, steady-step}
+use Rattle.ffa_laws.proofs.ProcessorLaws.{has-runner, interrupt-placed, interrupt-sound, interrupt_never_grows, on-grows, on-sound-state, on-told, one_effect, one_interrupt, operation-placed, operation-sound, operation_never_grows, resumed-view, steady-switched, on-steady, taken}
 use Rattle.ffa_laws.proofs.SoundSteady.{sound-steady}
 use Rattle.ffa_laws.proofs.Shows.{messages-public}
 
@@ -205,52 +208,123 @@ all-behind : (m : Shared) (x : Turn) (xs : List Turn) → are_possible (turn_aft
 all-behind m x [] = refl
 all-behind m x (y ∷ ys) = λ i. possible-behind m x y i && all-behind m x ys i
 
+-- ---- what isolation asks stays too
+resumed-known : (s : State) (op : Op) (f : ℕ) → resumed_by s op ≡ Some f → is_known s f ≡ true
+resumed-known s (Call x) f is = of (decode x) is
+  where
+    at : (e context : ℕ) (b : Bool) → may_resume (length s.parties) (schedule_of s) e context ≡ b → cond b (Some e) None ≡ Some f → is_known s f ≡ true
+    at e context false may is = absurd (none-some f is)
+    at e context true may is =
+        let (runs, rest) = and_parts (s.runner == 0) _ may in
+        let (partition, later) = and_parts (is_partition_among (length s.parties) e) _ rest in
+        subst (λ g. is_known s g ≡ true) (same_Some e f is) (partition-known (length s.parties) e partition)
+
+    of : (call : calls.Call) → resumed_by_call s call ≡ Some f → is_known s f ≡ true
+    of (Run target context) is = at target.0 context (may_resume (length s.parties) (schedule_of s) target.0 context) refl is
+    of call is = absurd (none-some f is)
+resumed-known s _ f is = absurd (none-some f is)
+
+act-steady : (s : State) → IsSteady s → (act : Act) → IsSteady (acted s act).state
+act-steady s steady (Operate op) = of (resumed_by s op) refl
+  where
+    of : (o : Option ℕ) → resumed_by s op ≡ o → IsSteady (effected s op o).state
+    of None is = steady-step s steady op
+    of (Some f) is = steady-switched s steady Blocked f (resumed-known s op f is)
+act-steady s steady Interrupt = elim (s.runner == 0) as (λ b. IsSteady (taken s b).state) [ true ↦ steady | false ↦ steady-switched s steady Preempted 0 refl ]
+
+-- there is no processor past the last, so the normal world is read there
+none-past : (s : State) (runners : List ℕ) (p : ℕ) → nat_lt p (length runners) ≡ false → is_known s (get_or runners p 0) ≡ true
+none-past s runners p past = ap (is_known s) (get_or_past runners p 0 (ltb-false p (length runners) past))
+
+-- who is noted is an endpoint of the machine
+noted-known : (processors : Processors) (p : ℕ) (s t : State) → IsSteady s → ((q : ℕ) → HasRunner processors q s) → t.parties ≡ s.parties
+    → (q : ℕ) → HasRunner (turned processors p s) q t
+noted-known processors p s t steady known parties q =
+    elim (processors.current == p) as (λ b. HasRunner (cond b processors (noted processors p s)) q t) [
+      | true ↦ λ other. there (runner_on processors q) (known q other)
+      | false ↦ λ other. there (runner_on (noted processors p s) q) (of (cases_eq q processors.current) (cases_Bool (nat_lt processors.current (length processors.runners))))
+    ]
+  where
+    there : (e : ℕ) → is_known s e ≡ true → is_known t e ≡ true
+    there e is = ap (λ (its : List Party). is_known_among (length its) e) parties ∙ is
+
+    of : (q ≡ processors.current) ⊎ (q ≢ processors.current) → (nat_lt processors.current (length processors.runners) ≡ true) ⊎ (nat_lt processors.current (length processors.runners) ≡ false)
+        → is_known s (runner_on (noted processors p s) q) ≡ true
+    of (inl here) (inl within) =
+        ap (λ r. is_known s (get_or (set processors.runners processors.current s.runner) r 0)) here
+        ∙ ap (is_known s) (get_or-set_same processors.runners processors.current s.runner 0 (ltb-true processors.current (length processors.runners) within)) ∙ steady.runner
+    of (inl here) (inr past) =
+        none-past s (set processors.runners processors.current s.runner) q
+        (ap (λ n. nat_lt q n) (length-set processors.runners processors.current s.runner) ∙ ap (λ r. nat_lt r (length processors.runners)) here ∙ past)
+    of (inr there) within =
+        ap (is_known s) (get_or-set_other processors.runners processors.current q s.runner 0 there) ∙ known q (λ same. there (sym same))
+
+turn-steady : (m : Shared) → IsSteadyShared m → (x : Turn) → is_possible m x ≡ true → IsSteadyShared (turn_after m x)
+turn-steady m steady (Acts p act) there = record {
+  state = act-steady (state_on m p) (on-steady m.processors p m.state steady.state (steady.runners p)) act;
+  runners =
+      noted-known m.processors p m.state (acted (state_on m p) act).state steady.state steady.runners
+      (act-parties (state_on m p) act ∙ on-parties m.processors p m.state);
+}
+turn-steady m steady (Writes e op) there = record {
+  state = steady-step_as m.state e op steady.state (and_parts (is_known m.state e) (is_store op) there).0;
+  runners = λ q other. known-behind m (Writes e op) (runner_on m.processors q) ∙ steady.runners q other;
+}
+
+pub steady-shared : (m : Shared) → IsSoundShared m → IsSteadyShared m
+steady-shared m sound = record {
+  state = sound-steady m.state sound.state;
+  runners = λ p. of p (cases_Bool (nat_lt p (length m.processors.runners)));
+}
+  where
+    of : (p : ℕ) → (nat_lt p (length m.processors.runners) ≡ true) ⊎ (nat_lt p (length m.processors.runners) ≡ false) → HasRunner m.processors p m.state
+    of p (inl within) = has-runner m.processors p m.state (ltb-true p (length m.processors.runners) within) sound.placed sound.state
+    of p (inr past) = λ other. none-past m.state m.processors.runners p past
+
 -- ---- lists of turns
-module _ (e : ℕ) (m : Shared) (sound : IsSoundShared m) (known : is_known m.state e ≡ true) where
+module _ (e : ℕ) (m : Shared) (steady : IsSteadyShared m) (known : is_known m.state e ≡ true) where
   turn-replayed : (x : Turn) → is_possible m x ≡ true → (rest : List Item)
       → replay e (view e m.state) (items_in e m x ++ rest) ≡ seeing (seen_in e m x) (replay e (view e (turn_after m x).state) rest)
   unfolding replay own_done as_effect
   turn-replayed (Acts p act) there rest =
-      let within : p < length m.processors.runners = ltb-true p (length m.processors.runners) there in
       let t = state_on m p in
       let known_t : is_known t e ≡ true = subst (λ (parties : List Party). is_known_among (length parties) e ≡ true) (sym (on-parties m.processors p m.state)) known in
-      let steady = sound-steady t (sound-there m sound p within) in
+      let steady_t = on-steady m.processors p m.state steady.state (steady.runners p) in
       ap (replay e (view e m.state)) (append_assoc (told (public_change m.state t)) (items_of e t act) rest)
       ∙ told-on e (view e m.state) (public_change m.state t) (items_of e t act ++ rest)
       ∙ ap (λ os. seeing (outcomes_of os) (replay e (apply_all e (view e m.state) (public_change m.state t)) (items_of e t act ++ rest))) (messages-public e m.state t)
       ∙ ap (λ v. replay e v (items_of e t act ++ rest)) (sym (on-told m.processors p e m.state))
-      ∙ act-replayed e t steady known_t act rest
+      ∙ act-replayed e t steady_t known_t act rest
   turn-replayed (Writes f op) there rest =
       let s = m.state in
       let (known_f, is) = and_parts (is_known s f) (is_store op) there in
-      let steady = sound-steady s sound.state in
       elim (f == e) as (λ b. (f == e) ≡ b → replay e (view e s) (cond b (Own op ∷ []) (told (events_as e s f op)) ++ rest)
       ≡ seeing (outcomes_of (cond b ((step_as s f op).outcome ∷ []) (messages e (events_as e s f op)))) (replay e (view e (step_as s f op).state) rest)) [
         | true ↦ λ mine.
             let acts : step_as (view e s) e op ≡ viewed e (step_as s f op) =
-            own-step_as s e op steady known ∙ ap (λ (g : ℕ). viewed e (step_as s g op)) (sym (eqb-true f e mine)) in
+            own-step_as s e op steady.state known ∙ ap (λ (g : ℕ). viewed e (step_as s g op)) (sym (eqb-true f e mine)) in
             ap (λ (done : Effected). seeing (done.effect ∷ []) (replay e done.state rest)) (own-store e (view e s) op is ∙ ap as_effect acts)
         | false ↦ λ differ.
             told-on e (view e s) (events_as e s f op) rest
-            ∙ ap (λ v. seeing (outcomes_of (messages e (events_as e s f op))) (replay e v rest)) (sym ((one_step_as s f op steady known_f).others e known (apart differ)))
+            ∙ ap (λ v. seeing (outcomes_of (messages e (events_as e s f op))) (replay e v rest)) (sym ((one_step_as s f op steady.state known_f).others e known (apart differ)))
       ] refl
     where
       apart : (f == e) ≡ false → f ≢ e
       apart differ same = true≢false (sym (eq-eqb f e same) ∙ differ)
 
-lived-is : (e : ℕ) (xs : List Turn) (m : Shared) → IsSoundShared m → is_known m.state e ≡ true → are_possible m xs ≡ true → lived e m xs ≡ replay e (view e m.state) (items_on e m xs)
+lived-is : (e : ℕ) (xs : List Turn) (m : Shared) → IsSteadyShared m → is_known m.state e ≡ true → are_possible m xs ≡ true → lived e m xs ≡ replay e (view e m.state) (items_on e m xs)
 unfolding replay lived
-lived-is e [] m sound known all = refl
-lived-is e (x ∷ xs) m sound known all =
+lived-is e [] m steady known all = refl
+lived-is e (x ∷ xs) m steady known all =
     let (here, rest) = and_parts (is_possible m x) (are_possible m xs) all in
-    let later = lived-is e xs (turn_after m x) (turn-sound m sound x here) (known-behind m x e ∙ known) (all-behind m x xs ∙ rest) in
-    ap (seeing (seen_in e m x)) later ∙ sym (turn-replayed e m sound known x here (items_on e (turn_after m x) xs))
+    let later = lived-is e xs (turn_after m x) (turn-steady m steady x here) (known-behind m x e ∙ known) (all-behind m x xs ∙ rest) in
+    ap (seeing (seen_in e m x)) later ∙ sym (turn-replayed e m steady known x here (items_on e (turn_after m x) xs))
 
-pub isolated_on : (m : Shared) (xs : List Turn) → IsSoundShared m → are_possible m xs ≡ true → IsolatedOn m xs
+pub isolated_on : (m : Shared) (xs : List Turn) → IsSteadyShared m → are_possible m xs ≡ true → IsolatedOn m xs
 unfolding lived
-isolated_on m xs sound all e t others known sound_t all_t same same_items =
+isolated_on m xs steady all e t others known steady_t all_t same same_items =
     let alike : lived e t others ≡ lived e m xs =
-    lived-is e others t sound_t (ap (λ (v : State). is_known v e) same ∙ known) all_t ∙ (λ i. replay e (same i) (same_items i)) ∙ sym (lived-is e xs m sound known all) in
+    lived-is e others t steady_t (ap (λ (v : State). is_known v e) same ∙ known) all_t ∙ (λ i. replay e (same i) (same_items i)) ∙ sym (lived-is e xs m steady known all) in
     (ap (λ (l : Lived). l.seen) alike, ap (λ (l : Lived). l.view) alike)
 
 -- what holds of each turn holds of a list of them
@@ -344,21 +418,21 @@ module _ (processors : Processors) (p : ℕ) where
       of false = moved-stored s (runner_on processors p) e address size value
   on-stored s e op is = absurd (false≢true is)
 
-  pub on-stores : (xs : List (ℕ × Op)) (s : State) → AreStores xs → on processors p (state_after_as s xs) ≡ state_after_as (on processors p s) xs
-  on-stores [] s are = refl
-  on-stores (x ∷ xs) s ((address, byte, is), are) =
-      on-stores xs (step_as s x.0 x.1).state are
+  pub on-stores : (may : ℕ → ℕ → Bool) (xs : List (ℕ × Op)) (s : State) → AreStores may xs → on processors p (state_after_as s xs) ≡ state_after_as (on processors p s) xs
+  on-stores may [] s are = refl
+  on-stores may (x ∷ xs) s ((address, byte, is, lets), are) =
+      on-stores may xs (step_as s x.0 x.1).state are
       ∙ ap (λ (t : State). state_after_as t xs) (on-stored s x.0 x.1 (ap is_store is))
 
 -- and leave the run states
-pub schedule-after : (xs : List (ℕ × Op)) (s : State) → AreStores xs → schedule_of (state_after_as s xs) ≡ schedule_of s
-schedule-after [] s are = refl
-schedule-after (x ∷ xs) s ((address, byte, is), are) = schedule-after xs (step_as s x.0 x.1).state are ∙ same-schedule s x.0 x.1 (ap is_store is)
+pub schedule-after : (may : ℕ → ℕ → Bool) (xs : List (ℕ × Op)) (s : State) → AreStores may xs → schedule_of (state_after_as s xs) ≡ schedule_of s
+schedule-after may [] s are = refl
+schedule-after may (x ∷ xs) s ((address, byte, is, lets), are) = schedule-after may xs (step_as s x.0 x.1).state are ∙ same-schedule s x.0 x.1 (ap is_store is)
 
 -- who is noted for the processor that did the act before
-pub turned-after : (processors : Processors) (p : ℕ) (xs : List (ℕ × Op)) (s : State) → AreStores xs → turned processors p (state_after_as s xs) ≡ turned processors p s
-turned-after processors p xs s are =
-    ap (λ (c : Schedule). cond (processors.current == p) processors (let next : Processors = record { current = p; runners = set processors.runners processors.current c.runner } in next)) (schedule-after xs s are)
+pub turned-after : (may : ℕ → ℕ → Bool) (processors : Processors) (p : ℕ) (xs : List (ℕ × Op)) (s : State) → AreStores may xs → turned processors p (state_after_as s xs) ≡ turned processors p s
+turned-after may processors p xs s are =
+    ap (λ (c : Schedule). cond (processors.current == p) processors (let next : Processors = record { current = p; runners = set processors.runners processors.current c.runner } in next)) (schedule-after may xs s are)
 
 -- so who goes on by a call is the same
 pub resumed-same : (s t : State) → length t.parties ≡ length s.parties → schedule_of t ≡ schedule_of s → (op : Op) → resumed_by t op ≡ resumed_by s op
@@ -372,8 +446,8 @@ resumed-same s t parties schedule (Store address size value) = refl
 resumed-same s t parties schedule (Fetch address) = refl
 
 -- stores of endpoints that there are
-pub writes-there : (xs : List (ℕ × Op)) (m : Shared) → AreStores xs → are_known m.state xs ≡ true → are_possible m (as_writes xs) ≡ true
-writes-there [] m are known = refl
-writes-there (x ∷ xs) m ((address, byte, is), are) known =
+pub writes-there : (may : ℕ → ℕ → Bool) (xs : List (ℕ × Op)) (m : Shared) → AreStores may xs → are_known m.state xs ≡ true → are_possible m (as_writes xs) ≡ true
+writes-there may [] m are known = refl
+writes-there may (x ∷ xs) m ((address, byte, is, lets), are) known =
     let (here, rest) = and_parts (is_known m.state x.0) (are_known m.state xs) known in
-    and_from (is_possible m (Writes x.0 x.1)) (are_possible m (as_writes xs)) (and_from (is_known m.state x.0) (is_store x.1) here (ap is_store is)) (writes-there xs m are rest)
+    and_from (is_possible m (Writes x.0 x.1)) (are_possible m (as_writes xs)) (and_from (is_known m.state x.0) (is_store x.1) here (ap is_store is)) (writes-there may xs m are rest)

@@ -17,12 +17,18 @@ use Rattle.ffa_model.specs.State.{State, is_known}
 use Rattle.ffa_laws.specs.View.{view}
 use Rattle.ffa_laws.specs.Events.{Event, Item, Own, Told, messages, public_change}
 use Rattle.ffa_laws.specs.Elsewhere.{events_as}
-use Rattle.ffa_laws.specs.Processors.{events_resuming, interrupt_events}
+use Rattle.ffa_laws.specs.Processors.{HasRunner, events_resuming, interrupt_events}
+use Rattle.ffa_laws.specs.Steady.{IsSteady}
 
 -- it is sound, and its processors and its state fit together
 pub record IsSoundShared (m : Shared) : Type 0 where
   pub state : IsSoundState m.state
   pub placed : ArePlaced m.processors m.state
+
+-- what isolation asks of its state and of who runs on its processors: less than that it is sound
+pub record IsSteadyShared (m : Shared) : Type 0 where
+  pub state : IsSteady m.state
+  pub runners : (p : ℕ) → HasRunner m.processors p m.state
 
 -- what is done next: an act of a processor, or a store of an endpoint, whoever runs
 pub data Turn : Type 0 where
@@ -95,7 +101,7 @@ seen_on e m (x ∷ xs) = seen_in e m x ++ seen_on e (turn_after m x) xs
 -- events towards it alone.
 abbrev pub IsolatedOn : Shared → List Turn → Type 0
 IsolatedOn m xs =
-    (e : ℕ) (t : Shared) (others : List Turn) → is_known m.state e ≡ true → IsSoundShared t → are_possible t others ≡ true
+    (e : ℕ) (t : Shared) (others : List Turn) → is_known m.state e ≡ true → IsSteadyShared t → are_possible t others ≡ true
     → view e t.state ≡ view e m.state
     → items_on e t others ≡ items_on e m xs
     → (seen_on e t others ≡ seen_on e m xs) × (view e (turns_after t others).state ≡ view e (turns_after m xs).state)

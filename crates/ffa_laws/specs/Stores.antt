@@ -45,7 +45,7 @@ pub record AreWritten (s t : State) : Type 0 where
   pub same : blank (is_among pages) s ≡ blank (is_among pages) t
   pub sound : IsSoundState t
 
--- each is a store of a byte, by whoever
-abbrev pub AreStores : List (ℕ × Op) → Type 0
-AreStores [] = ⊤
-AreStores (x ∷ xs) = ((address byte : ℕ) × (x.1 ≡ Store address B1 byte)) × AreStores xs
+-- each is a store of a byte, and a test holds of who stores and where
+abbrev pub AreStores : (Identifier → ℕ → Bool) → List (ℕ × Op) → Type 0
+AreStores may [] = ⊤
+AreStores may (x ∷ xs) = ((address byte : ℕ) × (x.1 ≡ Store address B1 byte) × (may x.0 address ≡ true)) × AreStores may xs

@@ -17,7 +17,7 @@ ghost use Rattle.ffa_model.specs.Step.{step};
 ghost use Rattle.ffa_laws.specs.Isolation.{Integrity, NeverGrow, OneStep};
 ghost use Rattle.ffa_laws.specs.OwnAccess.{AreApart, OwnAccess};
 ghost use Rattle.ffa_laws.specs.Processors.{ConfidentialInterrupt, HasRunner, OneInterrupt, on_processor, resuming};
-ghost use Rattle.ffa_laws.specs.ProcessorRuns.{IsSoundShared, IsolatedOn, Turn, are_possible, as_turns, turns_after};
+ghost use Rattle.ffa_laws.specs.ProcessorRuns.{IsSoundShared, IsSteadyShared, IsolatedOn, Turn, are_possible, as_turns, turns_after};
 ghost use Rattle.ffa_laws.specs.Readable.{Confidential};
 ghost use Rattle.ffa_laws.specs.Silence.{IsHeard, Silence};
 ghost use Rattle.ffa_laws.specs.Steady.{IsSteady};
@@ -88,7 +88,8 @@ pub fn one_chain()
 /// Rights never grow, a sound state stays so, and who runs where fits together. A list without such stores leads where the
 /// definitions say.
 pub fn whole_run_on()
-    ensures isolated { (m : Shared) (xs : List Turn) → IsSoundShared m → are_possible m xs ≡ true → IsolatedOn m xs }
+    ensures isolated { (m : Shared) (xs : List Turn) → IsSteadyShared m → are_possible m xs ≡ true → IsolatedOn m xs }
+    ensures steady { (m : Shared) → IsSoundShared m → IsSteadyShared m }
     ensures sound { (m : Shared) (xs : List Turn) → IsSoundShared m → are_possible m xs ≡ true
         → IsSoundShared (turns_after m xs) }
     ensures never_grow { (m : Shared) (xs : List Turn) → IsSoundShared m → are_possible m xs ≡ true
