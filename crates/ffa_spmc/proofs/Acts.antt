@@ -25,14 +25,14 @@ use Rattle.ffa_laws.specs.Isolation.{NeverGrow}
 use Rattle.ffa_laws.specs.ProcessorRuns.{Acts, IsSoundShared, Turn, Writes, are_possible, as_turns, as_writes, is_possible, turns_after}
 use Rattle.ffa_laws.specs.Reads.{AreBeside}
 use Rattle.ffa_laws.specs.Stores.{AreStores, AreWritten, MayAllStore, all_stores, stores}
-use Rattle.ffa_laws.proofs.ProcessorRunLaws.{acts-after, acts-there, isolated_on, on-parties, on-stores, possible-after, possible-both, resumed-same, shared_never_grows, sound-behind, sound-there, sound_after_all, turned-after, turns-both, writes-after, writes-there}
+use Rattle.ffa_laws.proofs.ProcessorRunLaws.{acts-after, acts-there, isolated_on, on-parties, on-stores, possible-after, possible-both, resumed-same, shared_never_grows, sound-behind, sound-there, sound_after_all, steady-shared, turned-after, turns-both, writes-after, writes-there}
 use Rattle.ffa_laws.proofs.SoundOperations.{step-sound}
 use Rattle.ffa_laws.proofs.Stores.{written-stored}
 use Rattle.ffa_spmc.specs.declared.run.Run.{Run}
 use Rattle.ffa_spmc.specs.Among.{IsDoneReading, is_in, pages_read}
-use Rattle.ffa_spmc.specs.Clustered.{AreActed, AreAmongWrites, IsActedOn, IsBetween, IsEffected, IsRunOfActs, IsRunOfTurns, IsSeen, IsServed, pages_observed}
+use Rattle.ffa_spmc.specs.Clustered.{AreActed, AreAmongWrites, IsActedOn, IsBetween, IsEffected, IsEffectedAlone, IsRunOfActs, IsRunOfTurns, IsSeen, IsServed, is_seen_by, pages_observed}
 use Rattle.ffa_spmc.specs.Snapshot.{Snapshot}
-use Rattle.ffa_spmc.proofs.TxPages.{left-written, seen-written}
+use Rattle.ffa_spmc.proofs.TxPages.{IsWrittenBy, any-stores, both-stores, left-written, seen-written}
 
 -- what an operation of a machine does of its state
 reading-served : (o : Option Run) (old : Snapshot) (op : Op) (outcome : Outcome) (new : Snapshot) → IsDoneReading o old op outcome new
@@ -49,6 +49,11 @@ pub served : (shared : Bool) (old new : Snapshot) (op : Op) (effect : Effect) �
 served shared old new op (effects.Outcome outcome) (none, done) =
     let (seen, first, told, last) = reading-served (pages_observed shared old.state op) old op outcome new done in (seen, none, first, told, last)
 served shared old new op (effects.Resumed e) (some, is) = (some, ap (λ (x : Snapshot). x.state) is)
+
+pub unshared : (shared : Bool) (old new : Snapshot) (op : Op) (effect : Effect) → IsEffected shared old op effect new → IsEffectedAlone old.state op effect new.state
+    → IsServed false old.state op effect new.state
+unshared shared old new op (effects.Outcome outcome) (none, done) alone = (old.state, none, refl, alone.outcome, alone.state)
+unshared shared old new op (effects.Resumed e) (some, is) alone = (some, alone)
 
 -- while nobody else writes, it has the effect of the small machine, and leaves its state
 served-is : (old : State) (op : Op) (effect : Effect) (new : State) → IsServed false old op effect new
@@ -71,7 +76,7 @@ acted-is old p (Operate op) effect new its =
 acted-is old p Interrupt effect new its = (its.acted.0, λ i. record { processors = its.processors i; state = its.acted.1 i })
 
 -- and a list of them
-acted-all : (old : Shared) (acts : List (ℕ × Act)) (told : List Effect) (new : Shared) → AreActed false old acts told new
+acted-all : (old : Shared) (acts : List (ℕ × Act)) (told : List Effect) (new : Shared) → AreActed false false old acts told new
     → (told ≡ effects_on old acts) × (new ≡ shared_after_all old acts)
 acted-all old [] told new same = same
 acted-all old (x ∷ xs) told new (begun, next, effect, rest, same, is, done, later) =
@@ -82,7 +87,7 @@ acted-all old (x ∷ xs) told new (begun, next, effect, rest, same, is, done, la
     )
 
 -- so a list has the laws of lists
-pub acted-run : (old : Shared) (acts : List (ℕ × Act)) (told : List Effect) (new : Shared) → IsSoundShared old → are_there old acts ≡ true → AreActed false old acts told new
+pub acted-run : (old : Shared) (acts : List (ℕ × Act)) (told : List Effect) (new : Shared) → IsSoundShared old → are_there old acts ≡ true → AreActed false false old acts told new
     → IsRunOfActs old acts told new
 acted-run old acts told new sound there acted =
     let (effects, state) = acted-all old acts told new acted in
@@ -90,7 +95,7 @@ acted-run old acts told new sound there acted =
     record {
       effects = effects;
       state = state;
-      isolated = isolated_on old (as_turns acts) sound possible;
+      isolated = isolated_on old (as_turns acts) (steady-shared old sound) possible;
       never_grow =
           subst (λ (m : Shared). NeverGrow old.state m.state) (acts-after old acts ∙ sym state) (shared_never_grows old (as_turns acts) sound possible);
     }
@@ -98,18 +103,6 @@ acted-run old acts told new sound there acted =
 -- ---- stores
 known-both : (s : State) (xs ys : List (ℕ × Op)) → are_known s xs ≡ true → are_known s ys ≡ true → are_known s (xs ++ ys) ≡ true
 known-both s xs ys front back = list_all-append (λ (x : ℕ × Op). is_known s x.0) xs ys ∙ and_from (are_known s xs) (are_known s ys) front back
-
-both-stores : (xs ys : List (ℕ × Op)) → AreStores xs → AreStores ys → AreStores (xs ++ ys)
-both-stores [] ys front back = back
-both-stores (x ∷ xs) ys (one, front) back = (one, both-stores xs ys front back)
-
-page-stores : (bytes : List ℕ) (e address : ℕ) → AreStores (stores e address bytes)
-page-stores [] e address = tt
-page-stores (b ∷ bytes) e address = ((address, b, refl), page-stores bytes e (address + 1))
-
-are-stores : (t : State) (xs : List (ℕ × ℕ)) → AreStores (all_stores t xs)
-are-stores t [] = tt
-are-stores t (x ∷ xs) = both-stores (stores x.0 (t.ram_base + 4096 * x.1) (page_bytes t x.1)) (all_stores t xs) (page-stores (page_bytes t x.1) x.0 (t.ram_base + 4096 * x.1)) (are-stores t xs)
 
 page-known : (s : State) (e : ℕ) → is_known s e ≡ true → (bytes : List ℕ) (address : ℕ) → are_known s (stores e address bytes) ≡ true
 page-known s e known [] address = refl
@@ -121,40 +114,47 @@ all-known s t (x ∷ xs) (known, one, may) =
     known-both s (stores x.0 (t.ram_base + 4096 * x.1) (page_bytes t x.1)) (all_stores t xs)
     (page-known s x.0 known (page_bytes t x.1) (t.ram_base + 4096 * x.1)) (all-known s t xs may)
 
--- what is written is stores of endpoints that there are
-record AreWrites (m next : Shared) : Type 0 where
+-- what is written is stores of endpoints that there are, each as a test lets it
+record AreWrites (may : ℕ → ℕ → Bool) (m next : Shared) : Type 0 where
   writes : List (ℕ × Op)
-  stores : AreStores writes
+  stores : AreStores may writes
   possible : are_possible m (as_writes writes) ≡ true
   state : turns_after m (as_writes writes) ≡ next
 
-no-writes : (m next : Shared) → next ≡ m → AreWrites m next
-no-writes m next same = record { writes = []; stores = tt; possible = refl; state = sym same }
+no-writes : (may : ℕ → ℕ → Bool) (m next : Shared) → next ≡ m → AreWrites may m next
+no-writes may m next same = record { writes = []; stores = tt; possible = refl; state = sym same }
 
-stores-writes : (m : Shared) (xs : List (ℕ × Op)) → AreStores xs → are_known m.state xs ≡ true → AreWrites m (record m { state = state_after_as m.state xs })
-stores-writes m xs are known = record { writes = xs; stores = are; possible = writes-there xs m are known; state = writes-after xs m }
+stores-writes : (may : ℕ → ℕ → Bool) (m : Shared) (xs : List (ℕ × Op)) → AreStores may xs → are_known m.state xs ≡ true → AreWrites may m (record m { state = state_after_as m.state xs })
+stores-writes may m xs are known = record { writes = xs; stores = are; possible = writes-there may xs m are known; state = writes-after xs m }
 
-written-writes : (m : Shared) (t : State) → IsSoundState m.state → AreWritten m.state t → AreWrites m (record m { state = t })
-written-writes m t sound its =
-    subst (λ (s : State). AreWrites m (record m { state = s })) (written-stored m.state t sound its)
-    (stores-writes m (all_stores t its.pages) (are-stores t its.pages) (all-known m.state t its.pages its.may))
+written-writes : (may : ℕ → ℕ → Bool) (m : Shared) (t : State) → IsSoundState m.state → (its : AreWritten m.state t) → AreStores may (all_stores t its.pages)
+    → AreWrites may m (record m { state = t })
+written-writes may m t sound its are =
+    subst (λ (s : State). AreWrites may m (record m { state = s })) (written-stored m.state t sound its)
+    (stores-writes may m (all_stores t its.pages) are (all-known m.state t its.pages its.may))
 
-between-writes : (shared : Bool) (old new : Shared) → IsSoundState old.state → IsBetween shared old new → AreWrites old new
-between-writes false old new sound same = no-writes old new same
+between-writes : (between : Bool) (old new : Shared) → IsSoundState old.state → IsBetween between old new → AreWrites (λ e address. between) old new
+between-writes false old new sound same = no-writes (λ e address. false) old new same
 between-writes true old new sound (still, written) =
-    subst (λ (ps : Processors). AreWrites old (record { processors = ps; state = new.state })) (sym still) (written-writes old new.state sound written)
+    subst (λ (ps : Processors). AreWrites (λ e address. true) old (record { processors = ps; state = new.state })) (sym still)
+    (written-writes (λ e address. true) old new.state sound written (any-stores new.state written.pages))
 
 -- ---- an act between stores
-record IsTurned (m : Shared) (x : ℕ × Act) (effect : Effect) (next : Shared) : Type 0 where
-  begun : Shared
-  before : AreWrites m begun
-  told : effect ≡ (acted_on begun x).effect
-  behind : AreWrites (shared_after begun x) next
+-- who may store where, before an act in a machine and after it
+abbrev may_then : Bool → Shared → ℕ × Act → ℕ → ℕ → Bool
+may_then shared m x = is_seen_by shared (state_on m x.0) x.1
 
-plain-turned : (m : Shared) (p : ℕ) (act : Act) (effect : Effect) (next : Shared) → IsActedOn false m p act effect next → IsTurned m (p, act) effect next
-plain-turned m p act effect next its =
+record IsTurned (shared : Bool) (m : Shared) (x : ℕ × Act) (effect : Effect) (next : Shared) : Type 0 where
+  begun : Shared
+  before : AreWrites (may_then shared m x) m begun
+  told : effect ≡ (acted_on begun x).effect
+  behind : AreWrites (may_then shared m x) (shared_after begun x) next
+
+plain-turned : (shared : Bool) (m : Shared) (p : ℕ) (act : Act) (effect : Effect) (next : Shared) → IsActedOn false m p act effect next → IsTurned shared m (p, act) effect next
+plain-turned shared m p act effect next its =
     let (told, is) = acted-is m p act effect next its in
-    record { begun = m; before = no-writes m m refl; told = told; behind = no-writes (shared_after m (p, act)) next is }
+    let may = may_then shared m (p, act) in
+    record { begun = m; before = no-writes may m m refl; told = told; behind = no-writes may (shared_after m (p, act)) next is }
 
 -- by what was seen of TX
 module _ (m : Shared) (p : ℕ) (op : Op) (outcome : Outcome) (new : Shared) (sound : IsSoundState (state_on m p)) (its : IsActedOn true m p (Operate op) (effects.Outcome outcome) new) where
@@ -164,141 +164,154 @@ module _ (m : Shared) (p : ℕ) (op : Op) (outcome : Outcome) (new : Shared) (so
   abbrev seen : State
   seen = its.acted.0
 
-  front : AreWritten here seen
+  front : IsWrittenBy (pages_read here op) here here seen
   front = seen-written here seen op sound (pages_read here op) refl its.acted.2
 
-  back : AreWritten (step seen op).state new.state
-  back = left-written here seen op front.sound (pages_read here op) refl its.acted.2 new.state its.acted.4
+  back : IsWrittenBy (pages_read here op) here (step seen op).state new.state
+  back = left-written here seen op sound front.written.sound (pages_read here op) refl its.acted.2 new.state its.acted.4
 
   abbrev written : List (ℕ × Op)
-  written = all_stores seen front.pages
+  written = all_stores seen front.written.pages
 
-  are : AreStores written
-  are = are-stores seen front.pages
+  abbrev may : ℕ → ℕ → Bool
+  may = may_then true m (p, Operate op)
 
   known : are_known m.state written ≡ true
   known =
       subst (λ (parties : List Party). list_all (λ (x : ℕ × Op). is_known_among (length parties) x.0) written ≡ true) (on-parties m.processors p m.state)
-      (all-known here seen front.pages front.may)
+      (all-known here seen front.written.pages front.written.may)
 
   abbrev begun : Shared
   begun = record m { state = state_after_as m.state written }
 
   seen-then : state_on begun p ≡ seen
-  seen-then = on-stores m.processors p written m.state are ∙ written-stored here seen sound front
+  seen-then = on-stores m.processors p may written m.state front.stores ∙ written-stored here seen sound front.written
 
   none-then : resumed_by seen op ≡ None
   none-then =
-      resumed-same here seen (ap (λ (s : State). length s.parties) (sym front.same)) (ap (λ (s : State). schedule_of s) (sym front.same)) op ∙ its.acted.1
+      resumed-same here seen (ap (λ (s : State). length s.parties) (sym front.written.same)) (ap (λ (s : State). schedule_of s) (sym front.written.same)) op ∙ its.acted.1
 
   effect-then : acted_on begun (p, Operate op) ≡ effected seen op None
   effect-then = ap (λ (s : State). step_resuming s op) seen-then ∙ ap (effected seen op) none-then
 
   after : shared_after begun (p, Operate op) ≡ record { processors = new.processors; state = (step seen op).state }
-  after = λ i. record { processors = (turned-after m.processors p written m.state are ∙ sym its.processors) i; state = (effect-then i).state }
+  after = λ i. record { processors = (turned-after may m.processors p written m.state front.stores ∙ sym its.processors) i; state = (effect-then i).state }
 
-  served-turned : IsTurned m (p, Operate op) (effects.Outcome outcome) new
+  served-turned : IsTurned true m (p, Operate op) (effects.Outcome outcome) new
   served-turned = record {
     begun = begun;
-    before = stores-writes m written are known;
+    before = stores-writes may m written front.stores known;
     told = ap effects.Outcome its.acted.3 ∙ ap (λ (done : Effected). done.effect) (sym effect-then);
     behind =
-        subst (λ (n : Shared). AreWrites n new) (sym after)
-        (written-writes (record { processors = new.processors; state = (step seen op).state }) new.state (step-sound seen front.sound op) back);
+        subst (λ (n : Shared). AreWrites may n new) (sym after)
+        (written-writes may (record { processors = new.processors; state = (step seen op).state }) new.state (step-sound seen front.written.sound op) back.written back.stores);
   }
 
 one-turned : (shared : Bool) (m : Shared) (p : ℕ) (act : Act) (effect : Effect) (next : Shared) → IsSoundState (state_on m p) → IsActedOn shared m p act effect next
-    → IsTurned m (p, act) effect next
-one-turned false m p act effect next sound its = plain-turned m p act effect next its
+    → IsTurned shared m (p, act) effect next
+one-turned false m p act effect next sound its = plain-turned false m p act effect next its
 one-turned true m p (Operate op) (effects.Outcome outcome) next sound its = served-turned m p op outcome next sound its
-one-turned true m p (Operate op) (effects.Resumed e) next sound its = plain-turned m p (Operate op) (effects.Resumed e) next (record { acted = its.acted; processors = its.processors })
-one-turned true m p Interrupt effect next sound its = plain-turned m p Interrupt effect next (record { acted = its.acted; processors = its.processors })
+one-turned true m p (Operate op) (effects.Resumed e) next sound its = plain-turned true m p (Operate op) (effects.Resumed e) next (record { acted = its.acted; processors = its.processors })
+one-turned true m p Interrupt effect next sound its = plain-turned true m p Interrupt effect next (record { acted = its.acted; processors = its.processors })
 
 -- ---- lists
--- stores in front of a list of acts
 writes-append : (xs ys : List (ℕ × Op)) → as_writes (xs ++ ys) ≡ as_writes xs ++ as_writes ys
 writes-append xs ys = map-append (λ (x : ℕ × Op). Writes x.0 x.1) xs ys
 
-more-writes : (acts : List (ℕ × Act)) (m t : Shared) (told : List Effect) (writes : List (ℕ × Op)) (turns : List Turn) → AreStores writes → turns_after m (as_writes writes) ≡ t
-    → AreAmongWrites t acts told turns → AreAmongWrites m acts told (as_writes writes ++ turns)
-more-writes [] m t told writes turns stores leads (none, (last, others, is)) = (
-  none,
-  (writes ++ last, both-stores writes last stores others, ap (λ (zs : List Turn). as_writes writes ++ zs) is ∙ sym (writes-append writes last)),
-)
-more-writes (x ∷ xs) m t told writes turns stores leads (before, rest, later, is, others, first, among) =
-    let same : turns_after m (as_writes (writes ++ before)) ≡ turns_after t (as_writes before) =
-    ap (turns_after m) (writes-append writes before) ∙ turns-both (as_writes writes) (as_writes before) m ∙ ap (λ (n : Shared). turns_after n (as_writes before)) leads in (
-      writes ++ before,
-      rest,
-      later,
-      ap (λ (zs : List Turn). as_writes writes ++ zs) is ∙ sym (append_assoc (as_writes writes) (as_writes before) (Acts x.0 x.1 ∷ rest))
-          ∙ ap (λ (zs : List Turn). zs ++ (Acts x.0 x.1 ∷ rest)) (sym (writes-append writes before)),
-      both-stores writes before stores others,
-      first ∙ ap (λ (n : Shared). (acted_on n x).effect ∷ later) (sym same),
-      subst (λ (n : Shared). AreAmongWrites (shared_after n x) xs later rest) (sym same) among,
-    )
-
-record AreTurned (m : Shared) (acts : List (ℕ × Act)) (told : List Effect) (new : Shared) : Type 0 where
+record AreTurned (shared between : Bool) (m : Shared) (acts : List (ℕ × Act)) (told : List Effect) (new : Shared) : Type 0 where
   turns : List Turn
-  among : AreAmongWrites m acts told turns
+  among : AreAmongWrites shared between m acts told turns
   state : turns_after m turns ≡ new
   possible : are_possible m turns ≡ true
 
--- a list behind stores
-behind-writes : (m next new : Shared) (acts : List (ℕ × Act)) (told : List Effect) → AreWrites m next → AreTurned next acts told new → AreTurned m acts told new
-behind-writes m next new acts told its all = record {
-  turns = as_writes its.writes ++ all.turns;
-  among = more-writes acts m next told its.writes all.turns its.stores its.state all.among;
-  state = turns-both (as_writes its.writes) all.turns m ∙ ap (λ (n : Shared). turns_after n all.turns) its.state ∙ all.state;
-  possible =
-      possible-both m (as_writes its.writes) all.turns its.possible
-      (sym (possible-after (as_writes its.writes) all.turns m) ∙ subst (λ (n : Shared). are_possible n all.turns ≡ true) (sym its.state) all.possible);
-}
+-- what is possible after some turns is so before them
+possible-back : (xs ys : List Turn) (m n : Shared) → turns_after m xs ≡ n → are_possible n ys ≡ true → are_possible m ys ≡ true
+possible-back xs ys m n leads possible = sym (possible-after xs ys m) ∙ subst (λ (k : Shared). are_possible k ys ≡ true) (sym leads) possible
 
--- and behind an act
-behind-act : (m new : Shared) (x : ℕ × Act) (acts : List (ℕ × Act)) (rest : List Effect) → is_possible m (Acts x.0 x.1) ≡ true → AreTurned (shared_after m x) acts rest new
-    → AreTurned m (x ∷ acts) ((acted_on m x).effect ∷ rest) new
-behind-act m new x acts rest there all = record {
-  turns = Acts x.0 x.1 ∷ all.turns;
-  among = ([], all.turns, rest, refl, tt, refl, all.among);
-  state = all.state;
-  possible =
-      and_from (is_possible m (Acts x.0 x.1)) (are_possible m all.turns) there (sym (possible-after (Acts x.0 x.1 ∷ []) all.turns m) ∙ all.possible);
-}
+-- an act with what is stored before and after it, and then a list
+module _ (shared between : Bool) (old begun next new : Shared) (x : ℕ × Act) (effect : Effect)
+    (others : AreWrites (λ e address. between) old begun) (one : IsTurned shared begun x effect next) (there : is_possible old (Acts x.0 x.1) ≡ true) where
+  abbrev lead : List Turn
+  lead = as_writes (others.writes ++ one.before.writes)
 
-sound-written : (m next : Shared) → IsSoundShared m → AreWrites m next → IsSoundShared next
-sound-written m next sound its = subst IsSoundShared its.state (sound_after_all m (as_writes its.writes) sound its.possible)
+  abbrev trail : List Turn
+  trail = as_writes one.behind.writes
+
+  begins : turns_after old lead ≡ one.begun
+  begins =
+      ap (turns_after old) (writes-append others.writes one.before.writes) ∙ turns-both (as_writes others.writes) (as_writes one.before.writes) old
+      ∙ ap (λ (n : Shared). turns_after n (as_writes one.before.writes)) others.state ∙ one.before.state
+
+  acts : turns_after old (lead ++ (Acts x.0 x.1 ∷ [])) ≡ shared_after one.begun x
+  acts = turns-both lead (Acts x.0 x.1 ∷ []) old ∙ ap (λ (n : Shared). shared_after n x) begins
+
+  own : AreStores (may_then shared (turns_after old (as_writes others.writes)) x) (one.before.writes ++ one.behind.writes)
+  own =
+      subst (λ (m : Shared). AreStores (may_then shared m x) (one.before.writes ++ one.behind.writes)) (sym others.state)
+      (both-stores (may_then shared begun x) one.before.writes one.behind.writes one.before.stores one.behind.stores)
+
+  more-turned : (xs : List (ℕ × Act)) (rest : List Effect) → AreTurned shared between next xs rest new → AreTurned shared between old (x ∷ xs) (effect ∷ rest) new
+  more-turned xs rest later = record {
+    turns = lead ++ (Acts x.0 x.1 ∷ (trail ++ later.turns));
+    among = (
+      others.writes,
+      one.before.writes,
+      one.behind.writes,
+      later.turns,
+      rest,
+      refl,
+      others.stores,
+      own,
+      ap (λ (e : Effect). e ∷ rest) (one.told ∙ ap (λ (n : Shared). (acted_on n x).effect) (sym begins)),
+      subst (λ (n : Shared). AreAmongWrites shared between n xs rest later.turns)
+          (sym (ap (λ (n : Shared). turns_after (shared_after n x) trail) begins ∙ one.behind.state)) later.among,
+    );
+    state =
+        turns-both lead (Acts x.0 x.1 ∷ (trail ++ later.turns)) old ∙ ap (λ (n : Shared). turns_after (shared_after n x) (trail ++ later.turns)) begins
+        ∙ turns-both trail later.turns (shared_after one.begun x) ∙ ap (λ (n : Shared). turns_after n later.turns) one.behind.state ∙ later.state;
+    possible =
+        possible-both old lead (Acts x.0 x.1 ∷ (trail ++ later.turns))
+        (ap (are_possible old) (writes-append others.writes one.before.writes)
+        ∙ possible-both old (as_writes others.writes) (as_writes one.before.writes) others.possible
+        (possible-back (as_writes others.writes) (as_writes one.before.writes) old begun others.state one.before.possible))
+        (and_from (is_possible old (Acts x.0 x.1)) (are_possible old (trail ++ later.turns)) there
+        (possible-back (lead ++ (Acts x.0 x.1 ∷ [])) (trail ++ later.turns) old (shared_after one.begun x) acts
+        (possible-both (shared_after one.begun x) trail later.turns one.behind.possible
+        (possible-back trail later.turns (shared_after one.begun x) next one.behind.state later.possible))));
+  }
+
+sound-written : (may : ℕ → ℕ → Bool) (m next : Shared) → IsSoundShared m → AreWrites may m next → IsSoundShared next
+sound-written may m next sound its = subst IsSoundShared its.state (sound_after_all m (as_writes its.writes) sound its.possible)
 
 abbrev are_low : List (ℕ × Act) → Bool
 are_low xs = list_all (λ (x : ℕ × Act). nat_lt x.0 MOST_PROCESSORS) xs
 
-all-turned : (shared : Bool) (acts : List (ℕ × Act)) (old new : Shared) (told : List Effect) → IsSoundShared old → are_low acts ≡ true → AreActed shared old acts told new
-    → AreTurned old acts told new
-all-turned shared [] old new told sound low (none, between) =
-    let its = between-writes shared old new sound.state between in
+all-turned : (shared between : Bool) (acts : List (ℕ × Act)) (old new : Shared) (told : List Effect) → IsSoundShared old → are_low acts ≡ true
+    → AreActed shared between old acts told new → AreTurned shared between old acts told new
+all-turned shared between [] old new told sound low (none, last) =
+    let its = between-writes between old new sound.state last in
     record { turns = as_writes its.writes; among = (none, (its.writes, its.stores, refl)); state = its.state; possible = its.possible }
-all-turned shared (x ∷ xs) old new told sound low (begun, next, effect, rest, between, first, done, left) =
+all-turned shared between (x ∷ xs) old new told sound low (begun, next, effect, rest, free, first, done, left) =
     let (here, others) = and_parts (nat_lt x.0 MOST_PROCESSORS) (are_low xs) low in
     let there : ((m : Shared) → IsSoundShared m → is_possible m (Acts x.0 x.1) ≡ true) = λ m its. ap (nat_lt x.0) its.placed.count ∙ here in
-    let its = between-writes shared old begun sound.state between in
-    let good = sound-written old begun sound its in
+    let its = between-writes between old begun sound.state free in
+    let good = sound-written (λ e address. between) old begun sound its in
     let one = one-turned shared begun x.0 x.1 effect next (sound-there begun good x.0 (ltb-true x.0 (length begun.processors.runners) (there begun good))) done in
-    let acts = sound-written begun one.begun good one.before in
+    let acts = sound-written (may_then shared begun x) begun one.begun good one.before in
     let behind = sound-behind one.begun acts x.0 (ltb-true x.0 (length one.begun.processors.runners) (there one.begun acts)) x.1 in
-    let later = all-turned shared xs next new rest (sound-written (shared_after one.begun x) next behind one.behind) others left in
-    subst (λ (es : List Effect). AreTurned old (x ∷ xs) es new) (sym (first ∙ ap (λ (e : Effect). e ∷ rest) one.told))
-    (behind-writes old begun new (x ∷ xs) ((acted_on one.begun x).effect ∷ rest) its
-    (behind-writes begun one.begun new (x ∷ xs) ((acted_on one.begun x).effect ∷ rest) one.before
-    (behind-act one.begun new x xs rest (there one.begun acts) (behind-writes (shared_after one.begun x) next new xs rest one.behind later))))
+    let later = all-turned shared between xs next new rest (sound-written (may_then shared begun x) (shared_after one.begun x) next behind one.behind) others left in
+    subst (λ (es : List Effect). AreTurned shared between old (x ∷ xs) es new) (sym first)
+    (more-turned shared between old begun next new x effect its one (there old sound) xs rest later)
 
-pub acted-among : (shared : Bool) (old : Shared) (acts : List (ℕ × Act)) (told : List Effect) (new : Shared) → IsSoundShared old → are_there old acts ≡ true
-    → AreActed shared old acts told new → IsRunOfTurns old acts told new
-acted-among shared old acts told new sound there acted =
-    let all = all-turned shared acts old new told sound (ap (λ (n : ℕ). list_all (λ (x : ℕ × Act). nat_lt x.0 n) acts) (sym sound.placed.count) ∙ there) acted in
+pub acted-among : (shared between : Bool) (old : Shared) (acts : List (ℕ × Act)) (told : List Effect) (new : Shared) → IsSoundShared old → are_there old acts ≡ true
+    → AreActed shared between old acts told new → IsRunOfTurns shared between old acts told new
+acted-among shared between old acts told new sound there acted =
+    let all = all-turned shared between acts old new told sound (ap (λ (n : ℕ). list_all (λ (x : ℕ × Act). nat_lt x.0 n) acts) (sym sound.placed.count) ∙ there) acted in
     record {
       turns = all.turns;
       among = all.among;
+      possible = all.possible;
       state = all.state;
-      isolated = isolated_on old all.turns sound all.possible;
+      isolated = isolated_on old all.turns (steady-shared old sound) all.possible;
       never_grow = subst (λ (m : Shared). NeverGrow old.state m.state) all.state (shared_never_grows old all.turns sound all.possible);
     }

@@ -1,9 +1,10 @@
 -- SPDX-License-Identifier: MIT OR Apache-2.0
 -- The pages of TX that an operation reads, and what others write there, as stores of who runs.
-use Rattle.std.proofs.Common.{◌≡◌, ◌∙◌, ℕ, zero, suc, ◌+◌, ◌*◌, ◌≤◌, Bool, true, false, cond, List, [], ◌∷◌, length, get_or, Option, Some, None, refl, sym, ap, subst, arith, inl, inr}
-use Rattle.std.specs.Prelude.{◌==◌, ◌||◌}
+use Rattle.std.proofs.Common.{◌≡◌, ◌∙◌, ℕ, zero, suc, ◌+◌, ◌-◌, ◌*◌, ◌/◌, ◌<◌, ◌≤◌, Bool, true, false, cond, List, [], ◌∷◌, ◌++◌, length, get_or, Option, Some, None, refl, sym, ap, subst, arith, inl, inr}
+use Rattle.std.specs.Prelude.{◌==◌, ◌&&◌, ◌||◌, ◌^◌, nat_le, nat_lt}
+use Rattle.std.proofs.lemmas.List.{get_or_past}
 use Rattle.std.specs.Option.{option_and_then, option_map, option_map_or}
-use Rattle.std.proofs.lemmas.Bool.{cases_Bool, cases_eq, eq-eqb, false_from_ne_true, false≢true, ne_eqb}
+use Rattle.std.proofs.lemmas.Bool.{and_from, cases_Bool, cases_eq, cases_lt, eq-eqb, false_from_ne_true, false≢true, le-leb, lt-ltb, ne_eqb}
 use Rattle.std.proofs.Math.Path.{fun_ext}
 use Rattle.std.proofs.lemmas.Bool.Decides.{nat_tests}
 use Rattle.std.proofs.lemmas.Option.{none-some, same_Some}
@@ -20,7 +21,7 @@ use Rattle.ffa_model.specs.Buffers.{buffers_with_rx}
 use Rattle.ffa_model.specs.Calls.{Stepped}
 use Rattle.ffa_model.specs.Identifiers.{place}
 use Rattle.ffa_model.specs.Lists.{is_in_run}
-use Rattle.ffa_model.specs.Memory.{page_bytes}
+use Rattle.ffa_model.specs.Memory.{page_bytes, page_of_address}
 use Rattle.ffa_model.specs.MemoryRetrieve.{retrieve_read, retrieved, retrieved_from}
 use Rattle.ffa_model.specs.MemoryReturn.{relinquish_read, relinquished, relinquished_from}
 use Rattle.ffa_model.specs.MemorySend.{memory_sent, send_read}
@@ -29,17 +30,18 @@ use Rattle.ffa_model.specs.Registers.{decode}
 use Rattle.ffa_model.specs.Rights.{may_store}
 use Rattle.ffa_model.specs.SendDescriptor.{SendRecord}
 use Rattle.ffa_model.specs.SoundState.{IsSoundState}
-use Rattle.ffa_model.specs.State.{State, Buffers, Page, buffers_of, is_known, page_at, transaction_of}
+use Rattle.ffa_model.specs.State.{State, Buffers, Page, Party, buffers_of, is_known, page_at, transaction_of}
 use Rattle.ffa_model.specs.Step.{service, step}
 use Rattle.ffa_model.proofs.Runs.{in-run, run-wider, to-run}
 use Rattle.ffa_laws.specs.Readable.{blank}
 use Rattle.ffa_laws.specs.Reads.{AreBeside, AreReadSame, bytes_read, pages_holding, tx_pages_read}
 use Rattle.ffa_laws.proofs.NoMore.{same-in-front}
 use Rattle.ffa_physmem.specs.Moments.{AgreeInFirst}
-use Rattle.ffa_laws.specs.Stores.{AreWritten, MayAllStore, is_among}
+use Rattle.ffa_laws.specs.Stores.{AreStores, AreWritten, MayAllStore, all_stores, is_among, stores}
 use Rattle.ffa_laws.proofs.ElsewhereLaws.{step_as-runner}
 use Rattle.ffa_laws.proofs.ElsewhereRunLaws.{known-as}
 use Rattle.ffa_laws.proofs.Form.{served-kept}
+use Rattle.ffa_laws.proofs.Kept.{step-fixed}
 use Rattle.ffa_laws.proofs.OwnTx.{leaves_tx}
 use Rattle.ffa_laws.proofs.SoundOperations.{step-sound}
 use Rattle.ffa_laws.proofs.SoundSteady.{runner-known}
@@ -201,6 +203,13 @@ module _ (s : State) (sound : IsSoundState s) (op : Op) (run : Run) (is : pages_
       usable-writes next s.runner p
       (((step-sound s sound op).buffers s.runner c known has).tx p (within c (tx.first ∙ sym first) (omega (arith, tx.few, pages)) p its))
 
+  pub run-inside : (p : ℕ) → is_in run p ≡ true → p < length s.pages
+  run-inside p its = elim (cases_lt p (length s.pages)) [
+    | inl lt ↦ lt
+    | inr past ↦
+        absurd (false≢true (sym (ap (λ (o : Option Page). may_store (right_of s.runner o (transaction_at s p))) (get_or_past s.pages p None past)) ∙ may-before p its))
+  ]
+
   -- they are whole, and the operation changes no byte of them
   pub front-whole : (p : ℕ) → is_in run p ≡ true → length (page_bytes s p) ≡ 4096
   front-whole p its = of (page_at s p) refl (may-before p its)
@@ -212,6 +221,58 @@ module _ (s : State) (sound : IsSoundState s) (op : Op) (run : Run) (is : pages_
   pub front-kept : (p : ℕ) → is_in run p ≡ true → page_bytes (step s op).state p ≡ page_bytes s p
   front-kept p its =
       let tx = of-tx s op run is in tx.leaves sound p (within tx.buffers tx.first tx.few p its)
+
+-- ---- stores
+pub both-stores : (may : ℕ → ℕ → Bool) (xs ys : List (ℕ × Op)) → AreStores may xs → AreStores may ys → AreStores may (xs ++ ys)
+both-stores may [] ys front back = back
+both-stores may (x ∷ xs) ys (one, front) back = (one, both-stores may xs ys front back)
+
+-- of bytes in a row, where their endpoint may store each
+page-stores : (bytes : List ℕ) (may : ℕ → ℕ → Bool) (e start at : ℕ) → ((i : ℕ) → i < at + length bytes → may e (start + i) ≡ true)
+    → AreStores may (stores e (start + at) bytes)
+page-stores [] may e start at lets = tt
+page-stores (b ∷ bytes) may e start at lets = (
+  (start + at, b, refl, lets at (omega arith)),
+  subst (λ (a : ℕ). AreStores may (stores e a bytes)) (omega arith) (page-stores bytes may e start (suc at) (λ i low. lets i (omega (arith, low)))),
+)
+
+first-stores : (bytes : List ℕ) (may : ℕ → ℕ → Bool) (e start : ℕ) → ((i : ℕ) → i < length bytes → may e (start + i) ≡ true) → AreStores may (stores e start bytes)
+first-stores bytes may e start lets =
+    subst (λ (a : ℕ). AreStores may (stores e a bytes)) (omega arith) (page-stores bytes may e start 0 (λ i low. lets i (omega (arith, low))))
+
+-- of any pages, where anybody may store
+pub any-stores : (t : State) (xs : List (ℕ × ℕ)) → AreStores (λ e address. true) (all_stores t xs)
+any-stores t [] = tt
+any-stores t (x ∷ xs) =
+    both-stores (λ e address. true) (stores x.0 (t.ram_base + 4096 * x.1) (page_bytes t x.1)) (all_stores t xs)
+    (first-stores (page_bytes t x.1) (λ e address. true) x.0 (t.ram_base + 4096 * x.1) (λ i low. refl)) (any-stores t xs)
+
+page-few : (t : State) → IsSoundState t → (p : ℕ) → length (page_bytes t p) ≤ 4096
+page-few t sound p = of (page_at t p) refl
+  where
+    of : (o : Option Page) → page_at t p ≡ o → length (option_map_or (λ (q : Page). q.bytes) o []) ≤ 4096
+    of None at = omega arith
+    of (Some q) at = (let size = (sound.pages p q at).size in omega (arith, size))
+
+-- whether who acts is e, and the address is in one of these pages
+abbrev pub is_into : Option Run → State → ℕ → ℕ → Bool
+is_into o s e address = e == s.runner && option_map_or (λ run. option_map_or (is_in run) (page_of_address s address) false) o false
+
+-- an address in a page of RAM
+page-of : (s : State) → IsSoundState s → (base p i : ℕ) → base ≡ s.ram_base → p < length s.pages → i < 4096 → page_of_address s (base + 4096 * p + i) ≡ Some p
+page-of s sound base p i same inside low =
+    let high : s.ram_base + 4096 * length s.pages ≤ 2 ^ 32 = sound.sized.within in
+    let below : base + 4096 * p + i < 2 ^ 32 = omega (arith, same, high, inside, low) in
+    ap (λ (b : Bool). cond b (Some ((base + 4096 * p + i - s.ram_base) / 4096)) None)
+    (and_from (nat_le s.ram_base (base + 4096 * p + i)) (nat_lt (base + 4096 * p + i) (2 ^ 32))
+    (le-leb s.ram_base (base + 4096 * p + i) (omega (arith, same))) (lt-ltb (base + 4096 * p + i) (2 ^ 32) below))
+    ∙ ap Some (omega (arith, same, low))
+
+into-there : (run : Run) (s : State) → IsSoundState s → (e base p i : ℕ) → e ≡ s.runner → base ≡ s.ram_base → p < length s.pages → is_in run p ≡ true → i < 4096
+    → is_into (Some run) s e (base + 4096 * p + i) ≡ true
+into-there run s sound e base p i runs same inside its low =
+    and_from (e == s.runner) (option_map_or (is_in run) (page_of_address s (base + 4096 * p + i)) false) (eq-eqb e s.runner runs)
+    (ap (λ (o : Option ℕ). option_map_or (is_in run) o false) (page-of s sound base p i same inside low) ∙ its)
 
 -- ---- what others write there
 -- pages in a row, all beside one endpoint
@@ -241,8 +302,18 @@ may-beside (suc n) s e first known may = (
   may-beside n s e (first + 1) known (λ p its. may p (run-wider first n p its)),
 )
 
+-- stores of one endpoint into pages in a row
+run-stores : (n : ℕ) (may : ℕ → ℕ → Bool) (e : ℕ) (t : State) → IsSoundState t → (first : ℕ)
+    → ((p i : ℕ) → is_in_run first n p ≡ true → i < 4096 → may e (t.ram_base + 4096 * p + i) ≡ true) → AreStores may (all_stores t (beside e first n))
+run-stores zero may e t sound first lets = tt
+run-stores (suc n) may e t sound first lets =
+    both-stores may (stores e (t.ram_base + 4096 * first) (page_bytes t first)) (all_stores t (beside e (first + 1) n))
+    (first-stores (page_bytes t first) may e (t.ram_base + 4096 * first)
+    (λ i low. lets first i (to-run first (suc n) first (omega arith) (omega arith)) (let few = page-few t sound first in omega (arith, few, low))))
+    (run-stores n may e t sound (first + 1) (λ p i its low. lets p i (run-wider first n p its) low))
+
 -- who differs in bytes of a run alone, into which an endpoint may store
-run-written : (s t : State) (e : ℕ) (run : Run) → IsSoundState t → is_known s e ≡ true → blank (is_in run) s ≡ blank (is_in run) t
+abbrev run-written : (s t : State) (e : ℕ) (run : Run) → IsSoundState t → is_known s e ≡ true → blank (is_in run) s ≡ blank (is_in run) t
     → ((p : ℕ) → is_in run p ≡ true → may_store (access s e p) ≡ true) → AreWritten s t
 run-written s t e run sound known same may =
     record {
@@ -263,20 +334,36 @@ known-step : (s : State) (op : Op) → IsSoundState s → is_known (step s op).s
 known-step s op sound =
     subst (λ (t : Stepped). is_known t.state s.runner ≡ true) (step_as-runner s op) (known-as s s.runner op s.runner (runner-known s sound))
 
-nothing-written : (s : State) → IsSoundState s → AreWritten s s
-nothing-written s sound = record { pages = []; may = tt; same = refl; sound = sound }
+-- what others wrote is stores of who acts into these pages
+pub record IsWrittenBy (o : Option Run) (s t u : State) : Type 0 where
+  pub written : AreWritten t u
+  pub stores : AreStores (is_into o s) (all_stores u written.pages)
+
+none-written : (s t u : State) → IsSoundState t → u ≡ t → IsWrittenBy None s t u
+none-written s t u sound same = record {
+  written = record { pages = []; may = tt; same = ap (blank (is_among [])) (sym same); sound = subst IsSoundState (sym same) sound };
+  stores = tt;
+}
+
+run-written-by : (run : Run) (s t u : State) (e : ℕ) → IsSoundState s → ((p : ℕ) → is_in run p ≡ true → p < length s.pages) → e ≡ s.runner → u.ram_base ≡ s.ram_base → IsSoundState u → is_known t e ≡ true → blank (is_in run) t ≡ blank (is_in run) u
+    → ((p : ℕ) → is_in run p ≡ true → may_store (access t e p) ≡ true) → IsWrittenBy (Some run) s t u
+run-written-by run s t u e good inside runs base sound known same may = record {
+  written = run-written t u e run sound known same may;
+  stores = run-stores run.count (is_into (Some run) s) e u sound run.first.0 (λ p i its low. into-there run s good e u.ram_base p i runs base (inside p its) its low);
+}
 
 -- what was seen there is what its endpoint stored before the operation, and what others wrote is what it stores behind it
 module _ (s seen : State) (op : Op) where
-  pub seen-written : IsSoundState s → (o : Option Run) → pages_read s op ≡ o → IsSeen o s seen → AreWritten s seen
-  seen-written sound None is same = subst (AreWritten s) (sym same) (nothing-written s sound)
+  pub seen-written : IsSoundState s → (o : Option Run) → pages_read s op ≡ o → IsSeen o s seen → IsWrittenBy o s s seen
+  seen-written sound None is same = none-written s s seen sound same
   seen-written sound (Some run) is (beside, good) =
-      run-written s seen s.runner run good (runner-known s sound) beside.same (may-before s sound op run is)
+      run-written-by run s s seen s.runner sound (run-inside s sound op run is) refl (ap (λ (t : State). t.ram_base) (sym beside.same)) good (runner-known s sound) beside.same (may-before s sound op run is)
 
-  pub left-written : IsSoundState seen → (o : Option Run) → pages_read s op ≡ o → IsSeen o s seen → (new : State) → IsSeen o (step seen op).state new
-      → AreWritten (step seen op).state new
-  left-written sound None is same new left = subst (AreWritten (step seen op).state) (sym left) (nothing-written (step seen op).state (step-sound seen sound op))
-  left-written sound (Some run) is (before, good) new (left, good_then) =
+  pub left-written : IsSoundState s → IsSoundState seen → (o : Option Run) → pages_read s op ≡ o → IsSeen o s seen → (new : State) → IsSeen o (step seen op).state new
+      → IsWrittenBy o s (step seen op).state new
+  left-written first sound None is same new left = none-written s (step seen op).state new (step-sound seen sound op) left
+  left-written first sound (Some run) is (before, good) new (left, good_then) =
       let known = known-step seen op sound in
-      run-written (step seen op).state new seen.runner run good_then known left.same
-      (may-behind seen sound op run (read-same s seen (is_in run) op before.same ∙ is) known)
+      run-written-by run s (step seen op).state new seen.runner first (run-inside s first op run is) (ap (λ (t : State). t.runner) (sym before.same))
+      (ap (λ (t : State). t.ram_base) (sym left.same) ∙ ap (λ (parts : List Party × (ℕ × ℕ)). parts.1.0) (step-fixed seen op) ∙ ap (λ (t : State). t.ram_base) (sym before.same))
+      good_then known left.same (may-behind seen sound op run (read-same s seen (is_in run) op before.same ∙ is) known)

@@ -1,6 +1,7 @@
 -- SPDX-License-Identifier: MIT OR Apache-2.0
 -- What a contract sees of a machine that several processors run, what an operation of one of them comes to, and what a list of acts does.
-use Rattle.std.specs.Prelude.{◌≡◌, ℕ, Bool, true, false, List, [], ◌∷◌, ◌++◌, Option, Some, None, refl, if◌then◌else◌}
+use Rattle.std.specs.Prelude.{◌≡◌, ℕ, ◌==◌, ◌&&◌, Bool, true, false, List, [], ◌∷◌, ◌++◌, Option, Some, None, refl, if◌then◌else◌}
+use Rattle.std.specs.Option.{option_map_or}
 use Rattle.std.specs.Coded.{Coded, code_by, coded×, coded_ℕ, coded_list}
 use Rattle.ffa_model.specs.declared.operation.Act.{Act}
 use Rattle.ffa_model.specs.declared.operation.Act.TheVariants.{Operate, Interrupt}
@@ -8,12 +9,14 @@ use Rattle.ffa_model.specs.declared.operation.Effect.{Effect}
 use Rattle.ffa_model.specs.declared.operation.Effect.TheVariants.{Outcome, Resumed}
 use Rattle.ffa_model.specs.declared.operation.Op.{Op}
 use Rattle.ffa_model.specs.declared.schedule.Status.TheVariants.{Blocked}
+use Rattle.ffa_model.specs.Memory.{page_of_address}
+use Rattle.ffa_model.specs.Numbers.{Identifier}
 use Rattle.ffa_model.specs.Processors.{Processors, Shared, acted_on, effects_on, interrupt, on, resumed_by, shared_after, shared_after_all, state_on, turned, with_switch}
 use Rattle.ffa_model.specs.SoundState.{IsSoundState}
 use Rattle.ffa_model.specs.State.{State}
 use Rattle.ffa_model.specs.Step.{step}
 use Rattle.ffa_laws.specs.Isolation.{NeverGrow}
-use Rattle.ffa_laws.specs.ProcessorRuns.{Acts, IsolatedOn, Turn, as_turns, as_writes, turns_after}
+use Rattle.ffa_laws.specs.ProcessorRuns.{Acts, IsolatedOn, Turn, are_possible, as_turns, as_writes, turns_after}
 use Rattle.ffa_laws.specs.Reads.{AreBeside}
 use Rattle.ffa_laws.specs.Stores.{AreStores, AreWritten}
 use Rattle.ffa_spmc.specs.Among.{IsDoneAlone, IsDoneReading, is_in, pages_read}
@@ -86,13 +89,14 @@ abbrev pub IsBetween : Bool → Shared → Shared → Type 0
 IsBetween false old new = new ≡ old
 IsBetween true old new = (new.processors ≡ old.processors) × AreWritten old.state new.state
 
--- acts that are done one after another, each of the processor beside it, and nothing else between them
-abbrev pub AreActed : Bool → Shared → List (ℕ × Act) → List Effect → Shared → Type 0
-AreActed shared old [] told new = (told ≡ []) × IsBetween shared old new
-AreActed shared old (x ∷ xs) told new =
+-- Acts that are done one after another, each of the processor beside it. Others may write to TX during an act if `shared`, and between acts
+-- if `between`.
+abbrev pub AreActed : (shared between : Bool) → Shared → List (ℕ × Act) → List Effect → Shared → Type 0
+AreActed shared between old [] told new = (told ≡ []) × IsBetween between old new
+AreActed shared between old (x ∷ xs) told new =
     (begun next : Shared) × (effect : Effect) × (rest : List Effect)
-    × IsBetween shared old begun × (told ≡ effect ∷ rest)
-    × IsActedOn shared begun x.0 x.1 effect next × AreActed shared next xs rest new
+    × IsBetween between old begun × (told ≡ effect ∷ rest)
+    × IsActedOn shared begun x.0 x.1 effect next × AreActed shared between next xs rest new
 
 -- acts had these effects and led to this machine, as the definitions say of the list; each endpoint sees of them what isolation
 -- says, and no right grew
@@ -104,19 +108,31 @@ pub record IsRunOfActs (old : Shared) (acts : List (ℕ × Act)) (told : List Ef
 
 -- WHILE OTHERS WRITE
 
--- acts one after another with these effects, between which anybody stores
-abbrev pub AreAmongWrites : Shared → List (ℕ × Act) → List Effect → List Turn → Type 0
-AreAmongWrites m [] told turns = (told ≡ []) × ((writes : List (ℕ × Op)) × AreStores writes × (turns ≡ as_writes writes))
-AreAmongWrites m (x ∷ xs) told turns =
-    (before : List (ℕ × Op)) × (rest : List Turn) × (later : List Effect)
-    × (turns ≡ as_writes before ++ (Acts x.0 x.1 ∷ rest)) × AreStores before
-    × (told ≡ (acted_on (turns_after m (as_writes before)) x).effect ∷ later)
-    × AreAmongWrites (shared_after (turns_after m (as_writes before)) x) xs later rest
+-- whether e is who acts, and the address is in a page of its TX that the act sees at once
+abbrev pub is_seen_by : Bool → State → Act → Identifier → ℕ → Bool
+is_seen_by shared s (Operate op) e address =
+    e == s.runner
+    && option_map_or (λ run. option_map_or (is_in run) (page_of_address s address) false) (pages_observed shared s op) false
+is_seen_by shared s Interrupt e address = false
+
+-- Acts one after another with these effects. If `between`, anybody may store between acts. Right before and right after an act, whoever
+-- acts may store into the pages of its TX that the act sees at once.
+abbrev pub AreAmongWrites : (shared between : Bool) → Shared → List (ℕ × Act) → List Effect → List Turn → Type 0
+AreAmongWrites shared between m [] told turns =
+    (told ≡ []) × ((others : List (ℕ × Op)) × AreStores (λ e address. between) others × (turns ≡ as_writes others))
+AreAmongWrites shared between m (x ∷ xs) told turns =
+    (others before behind : List (ℕ × Op)) × (rest : List Turn) × (later : List Effect)
+    × (turns ≡ as_writes (others ++ before) ++ (Acts x.0 x.1 ∷ (as_writes behind ++ rest)))
+    × AreStores (λ e address. between) others
+    × AreStores (is_seen_by shared (state_on (turns_after m (as_writes others)) x.0) x.1) (before ++ behind)
+    × (told ≡ (acted_on (turns_after m (as_writes (others ++ before))) x).effect ∷ later)
+    × AreAmongWrites shared between (turns_after (shared_after (turns_after m (as_writes (others ++ before))) x) (as_writes behind)) xs later rest
 
 -- acts led from one machine to another as such a list does, of which each endpoint sees what isolation says, and no right grew
-pub record IsRunOfTurns (old : Shared) (acts : List (ℕ × Act)) (told : List Effect) (new : Shared) : Type 0 where
+pub record IsRunOfTurns (shared between : Bool) (old : Shared) (acts : List (ℕ × Act)) (told : List Effect) (new : Shared) : Type 0 where
   pub turns : List Turn
-  pub among : AreAmongWrites old acts told turns
+  pub among : AreAmongWrites shared between old acts told turns
+  pub possible : are_possible old turns ≡ true
   pub state : turns_after old turns ≡ new
   pub isolated : IsolatedOn old turns
   pub never_grow : NeverGrow old.state new.state

@@ -11,7 +11,7 @@ ghost use Rattle.ffa_model.specs.Processors.{Shared, are_there};
 ghost use Rattle.ffa_model.specs.SoundState.{IsSoundState};
 ghost use Rattle.ffa_laws.specs.Isolation.{NeverGrow};
 ghost use Rattle.ffa_laws.specs.ProcessorRuns.{IsSoundShared};
-ghost use Rattle.ffa_spmc.specs.Clustered.{AreActed, IsEffected, IsRunOfActs, IsRunOfTurns, IsServed};
+ghost use Rattle.ffa_spmc.specs.Clustered.{AreActed, IsEffected, IsEffectedAlone, IsRunOfActs, IsRunOfTurns, IsServed};
 ghost use Rattle.ffa_spmc.specs.Meanwhile.{AreDoneAmid, LeavesAmid};
 ghost use Rattle.ffa_spmc.specs.Operated.{IsOperated};
 ghost use Rattle.ffa_spmc.specs.Snapshot.{Snapshot};
@@ -35,11 +35,15 @@ pub fn act_in_turn()
     // What `Cluster::op` promises of the machine has this in it of the state, and lists need no more.
     ensures served { (shared : Bool) (old new : Snapshot) (op : Op) (effect : Effect) → IsEffected shared old op effect new
         → IsServed shared old.state op effect new.state }
+    // So it has if others may write, and nobody does.
+    ensures unshared { (shared : Bool) (old new : Snapshot) (op : Op) (effect : Effect) → IsEffected shared old op effect new
+        → IsEffectedAlone old.state op effect new.state → IsServed false old.state op effect new.state }
     // In RAM to which nobody else writes they have the effects and leave the state that the definitions give for the list.
     ensures alone { (old : Shared) (acts : List (ℕ × Act)) (told : List Effect) (new : Shared) → IsSoundShared old
-        → are_there old acts ≡ true → AreActed false old acts told new → IsRunOfActs old acts told new }
-    // Where others write to the TX of whoever acts, and between acts into whatever they may, what they write are stores of endpoints
-    // between the acts.
-    ensures among { (shared : Bool) (old : Shared) (acts : List (ℕ × Act)) (told : List Effect) (new : Shared) → IsSoundShared old
-        → are_there old acts ≡ true → AreActed shared old acts told new → IsRunOfTurns old acts told new }
+        → are_there old acts ≡ true → AreActed false false old acts told new → IsRunOfActs old acts told new }
+    // Others may write to the TX of whoever acts, and between acts into whatever they may. What they write are stores of endpoints between
+    // the acts. If they write only during acts, these are stores of whoever acts, into the pages that the act sees at once.
+    ensures among { (shared between : Bool) (old : Shared) (acts : List (ℕ × Act)) (told : List Effect) (new : Shared)
+        → IsSoundShared old → are_there old acts ≡ true → AreActed shared between old acts told new
+        → IsRunOfTurns shared between old acts told new }
 {}
