@@ -45,7 +45,7 @@ extern "C" {
 
 /* The number of these declarations, raised by each change that a caller has to know of. Who loads the library while a
  * program runs compares it with gorseplumb_declarations, which answers the number that the library was built by. */
-#define GORSEPLUMB_DECLARATIONS 10
+#define GORSEPLUMB_DECLARATIONS 11
 
 uint32_t gorseplumb_declarations(void);
 
@@ -185,14 +185,20 @@ struct gorseplumb_endpoint {
     struct gorseplumb_region regions[GORSEPLUMB_MOST_REGIONS];
 };
 
+/* The version of FF-A that a machine serves, from its boot on. */
+enum gorseplumb_ffa {
+    GORSEPLUMB_FFA_1_1 = 0,
+    GORSEPLUMB_FFA_1_2 = 1
+};
+
 /* A manifest as numbers. */
 struct gorseplumb_manifest {
     uint32_t ram_base;       /* the address of RAM's first byte: a multiple of 0x200000, but not 0 */
     uint32_t ram_blocks;     /* of 2 MiB each, from 1 to GORSEPLUMB_MOST_BLOCKS, all in one GiB (no multiple of 2^30 inside) */
     uint32_t endpoint_count; /* of `endpoints`, from the first on; what stands behind is not read */
     struct gorseplumb_endpoint endpoints[GORSEPLUMB_MOST_ENDPOINTS];
-    uint32_t has_security_states; /* 0: all memory is alike. 1: that of the first endpoint's regions is non-secure, all other
-                                   * secure (docs/MEMORY.md); no text says it */
+    uint32_t ffa; /* an enum gorseplumb_ffa: 0 is FF-A 1.1, and all memory is alike. 1 is FF-A 1.2: memory of the first endpoint's
+                   * regions is non-secure, and all other memory is secure (docs/MEMORY.md). No text says it */
     uint32_t tables; /* the first page of the endpoints' tables, counted from RAM's first, which is 0: they are in a row from there, 2 +
                       * ram_blocks pages for each endpoint, and regions may lie before them and behind; no text says it */
 };
@@ -207,7 +213,7 @@ enum gorseplumb_answer {
     GORSEPLUMB_MANIFEST_TOML = 2,            /* the text is no TOML, or no UTF-8 */
     GORSEPLUMB_MANIFEST_UNKNOWN_KEY = 3,     /* a key that its table doesn't have */
     GORSEPLUMB_MANIFEST_MISSING_KEY = 4,     /* a table lacks one of its keys */
-    GORSEPLUMB_MANIFEST_WRONG_KIND = 5,      /* a value of another kind, unknown rights, or `has_security_states` that is neither 0 nor 1 */
+    GORSEPLUMB_MANIFEST_WRONG_KIND = 5,      /* a value of another kind, unknown rights, or `ffa` that is neither 0 nor 1 */
     GORSEPLUMB_MANIFEST_RAM_BASE = 6,        /* 0, or no multiple of 0x200000; in a text, of GORSEPLUMB_MOST_RAM, or with no room for that many bytes below 4 GiB */
     GORSEPLUMB_MANIFEST_RAM_BLOCKS = 7,      /* not from 1 to GORSEPLUMB_MOST_BLOCKS, or not in one GiB */
     GORSEPLUMB_MANIFEST_ENDPOINT_COUNT = 8,  /* not from 1 to 8 */
@@ -244,9 +250,8 @@ enum gorseplumb_answer gorseplumb_boot(struct gorseplumb_machine *machine, const
 
 /* The same of a manifest as numbers, for which no memory is needed but the machine's own and its RAM. Refused first, in
  * this order: more endpoints than places; then for each endpoint an unknown version, more regions than places, unknown
- * rights; then `has_security_states` that is neither 0 nor 1 (GORSEPLUMB_MANIFEST_WRONG_KIND). After that come the
- * causes of a text, in the order in which it would be read, with GORSEPLUMB_MANIFEST_TABLES_OUTSIDE behind the count of
- * endpoints. */
+ * rights; then `ffa` that is neither 0 nor 1 (GORSEPLUMB_MANIFEST_WRONG_KIND). After that come the causes of a text, in
+ * the order in which it would be read, with GORSEPLUMB_MANIFEST_TABLES_OUTSIDE behind the count of endpoints. */
 enum gorseplumb_answer gorseplumb_boot_manifest(struct gorseplumb_machine *machine,
                                                 const struct gorseplumb_manifest *manifest);
 
@@ -290,10 +295,9 @@ enum gorseplumb_answer gorseplumb_copy_lent(struct gorseplumb_machine *machine, 
                                             const struct gorseplumb_machine *original);
 
 /* Reads a manifest's text of `size` bytes into numbers, which a boot would go by, so that RAM can be lent that has the
- * size which the text describes. GORSEPLUMB_OK: `manifest` gives what the text describes, `has_security_states` and
- * `tables` are 0, and what stands behind the endpoints and regions that it counts is zeros. Else `manifest` stays:
- * GORSEPLUMB_NO_MEMORY, since reading takes memory, all of which it gives back, or the cause for which gorseplumb_boot
- * would refuse the text. */
+ * size which the text describes. GORSEPLUMB_OK: `manifest` gives what the text describes, `ffa` and `tables` are 0,
+ * and what stands behind the endpoints and regions that it counts is zeros. Else `manifest` stays: GORSEPLUMB_NO_MEMORY,
+ * since reading takes memory, all of which it gives back, or the cause for which gorseplumb_boot would refuse the text. */
 enum gorseplumb_answer gorseplumb_read_manifest(const uint8_t *text, size_t size, struct gorseplumb_manifest *manifest);
 
 /* Why a manifest is refused, and where. No byte lies between the fields. */

@@ -1,8 +1,8 @@
 /* SPDX-License-Identifier: MIT OR Apache-2.0 */
-/* Plays a trace through the border, and prints what the program prints with --processors 8: play heap|lent|explain|worlds MANIFEST TRACE.
- * With `lent` the machine stands in pages of this program, and with `explain` a reason follows each operation that is refused; with `worlds`
- * too, of a machine that tells non-secure memory from secure memory. The kinds of the reasons' hints are then added to the file HINTS, if that
- * is set. Whether the tables agree with gorseplumb_access is found by a walk of their bytes. */
+/* Plays a trace through the border, and prints what the program prints with --processors 8: play heap|lent|explain|explain-1.2 MANIFEST TRACE.
+ * With `lent` the machine stands in pages of this program, and with `explain` a reason follows each operation that is refused; with
+ * `explain-1.2` too, of a machine that serves FF-A 1.2. The kinds of the reasons' hints are then added to the file HINTS, if that is set.
+ * Whether the tables agree with gorseplumb_access is found by a walk of their bytes. */
 #include <inttypes.h>
 #include <stdio.h>
 #include <stdlib.h>
@@ -229,10 +229,10 @@ static void play(char *line) {
 }
 
 /* What no text says is told as a number. */
-static void boot_with_worlds(const char *text, size_t size) {
+static void boot_1_2(const char *text, size_t size) {
     static struct gorseplumb_manifest manifest;
     if (gorseplumb_read_manifest((const uint8_t *)text, size, &manifest) != GORSEPLUMB_OK) stop("the manifest is refused");
-    manifest.has_security_states = 1;
+    manifest.ffa = GORSEPLUMB_FFA_1_2;
     if (gorseplumb_boot_manifest(&machine, &manifest) != GORSEPLUMB_OK) stop("no boot of a manifest that was read");
 }
 
@@ -253,16 +253,16 @@ static uint32_t boot_in(struct gorseplumb_page *pages, struct gorseplumb_lent *l
 int main(int count, char **words) {
     static struct gorseplumb_page pages[MOST_PAGES];
     struct gorseplumb_lent lent = {0};
-    if (count != 4) stop("play heap|lent|explain|worlds MANIFEST TRACE");
-    bool tells_worlds = strcmp(words[1], "worlds") == 0;
-    explains = tells_worlds || strcmp(words[1], "explain") == 0;
+    if (count != 4) stop("play heap|lent|explain|explain-1.2 MANIFEST TRACE");
+    bool serves_1_2 = strcmp(words[1], "explain-1.2") == 0;
+    explains = serves_1_2 || strcmp(words[1], "explain") == 0;
     bool is_lent = strcmp(words[1], "lent") == 0;
     if (explains && getenv("HINTS") != NULL && (hints = fopen(getenv("HINTS"), "a")) == NULL) stop(getenv("HINTS"));
     size_t size, trace_size;
     uint32_t lent_pages = 0;
     char *text = text_of(words[2], &size), *trace = text_of(words[3], &trace_size);
     if (is_lent) lent_pages = boot_in(pages, &lent, text, size);
-    else if (tells_worlds) boot_with_worlds(text, size);
+    else if (serves_1_2) boot_1_2(text, size);
     else boot_on_heap(text, size);
     for (char *line = trace, *end; line < trace + trace_size; line = end + 1) {
         end = memchr(line, '\n', (size_t)(trace + trace_size - line));

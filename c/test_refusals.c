@@ -126,7 +126,7 @@ static void numbers(void) {
     refuses_numbers(&it, GORSEPLUMB_MANIFEST_RAM_BLOCKS, GORSEPLUMB_NOTHING, 0);
     it.ram_base = 1;
     refuses_numbers(&it, GORSEPLUMB_MANIFEST_RAM_BASE, GORSEPLUMB_NOTHING, 0);
-    it.has_security_states = 2;
+    it.ffa = 2;
     refuses_numbers(&it, GORSEPLUMB_MANIFEST_WRONG_KIND, GORSEPLUMB_NOTHING, 0);
     it.endpoints[2].regions[1].rights = 2;
     refuses_numbers(&it, GORSEPLUMB_MANIFEST_WRONG_KIND, 0x8002, 2);

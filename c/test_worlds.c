@@ -1,6 +1,6 @@
 /* SPDX-License-Identifier: MIT OR Apache-2.0 */
-/* Machines that tell non-secure memory from secure memory: what a retrieve's response says of it, and which sends are
- * refused. Numbers and answers are by reasoning, or the standard's, as in test.c. */
+/* Machines of FF-A 1.2, which tell non-secure memory from secure memory: what a retrieve's response says of it, and which
+ * sends are refused. Numbers and answers are by reasoning, or the standard's, as in test.c. */
 #include <stdio.h>
 #include "check.h"
 #include "gorseplumb_ffa.h"
@@ -18,8 +18,8 @@ void gorseplumb_settle(uint16_t endpoint, uint64_t address, uint64_t size) {
 #define SECURE_PAGE 0x40020000
 
 /* The normal world and two partitions, each with 16 pages, of which the last two are its TX and RX. */
-static struct gorseplumb_manifest two_partitions(uint32_t has_security_states) {
-    struct gorseplumb_manifest manifest = {.ram_base = 0x40000000, .ram_blocks = 1, .endpoint_count = 3, .has_security_states = has_security_states};
+static struct gorseplumb_manifest two_partitions(uint32_t ffa) {
+    struct gorseplumb_manifest manifest = {.ram_base = 0x40000000, .ram_blocks = 1, .endpoint_count = 3, .ffa = ffa};
     for (uint32_t place = 0; place < 3; place++) {
         struct gorseplumb_endpoint *endpoint = &manifest.endpoints[place];
         endpoint->uuid[0] = (uint8_t)place;
@@ -87,9 +87,9 @@ static void maps(uint32_t place) {
 
 /* The normal world, in whose place the machine boots, shares a page with 8001, and donates it another. 8001 runs then, and retrieves
  * both: it is told these attributes. */
-static void begins(uint32_t has_security_states, uint64_t told) {
+static void begins(uint32_t ffa, uint64_t told) {
     const uint16_t first = gorseplumb_identifier(1);
-    struct gorseplumb_manifest manifest = two_partitions(has_security_states);
+    struct gorseplumb_manifest manifest = two_partitions(ffa);
     CHECK(gorseplumb_boot_manifest(&machine, &manifest) == GORSEPLUMB_OK);
     maps(0);
     CHECK(gorseplumb_handle_of(shares(0, first, NORMAL_PAGE, 0)) == 1);
@@ -113,9 +113,9 @@ static void mixed(struct gorseplumb_outcome told, uint32_t size) {
 }
 
 /* Secure pages aren't offered to the normal world, nor beside non-secure ones; what it donated may be offered to it. */
-static void two_worlds(void) {
+static void serves_1_2(void) {
     const uint16_t first = gorseplumb_identifier(1), second = gorseplumb_identifier(2);
-    begins(1, 0x6F);
+    begins(GORSEPLUMB_FFA_1_2, 0x6F);
     CHECK(properties(GORSEPLUMB_FFA_MEM_RETRIEVE_REQ) == 2 && properties(GORSEPLUMB_FFA_MEM_RETRIEVE_REQ_64) == 2);
     CHECK(properties(GORSEPLUMB_FFA_MEM_LEND) == 0);
     mixed(shares(1, GORSEPLUMB_NORMAL_WORLD, SECURE_PAGE, 0), 0x60);
@@ -130,18 +130,18 @@ static void two_worlds(void) {
     CHECK(gorseplumb_end_heap(&machine) == GORSEPLUMB_OK);
 }
 
-/* Where worlds aren't told apart, all of that may be, and nothing is said of it. */
-static void one_world(void) {
+/* In FF-A 1.1 all of that may be, and nothing is said of it. */
+static void serves_1_1(void) {
     const uint16_t first = gorseplumb_identifier(1), second = gorseplumb_identifier(2);
-    begins(0, 0x2F);
+    begins(GORSEPLUMB_FFA_1_1, 0x2F);
     CHECK(properties(GORSEPLUMB_FFA_MEM_RETRIEVE_REQ) == 0 && properties(GORSEPLUMB_FFA_MEM_RETRIEVE_REQ_64) == 0);
     CHECK(gorseplumb_handle_of(shares(1, GORSEPLUMB_NORMAL_WORLD, SECURE_PAGE, 0)) == gorseplumb_of_halves(1, first));
     CHECK(gorseplumb_handle_of(shares(1, second, SECURE_PAGE + 0x1000, NORMAL_PAGE + 0x1000)) == gorseplumb_of_halves(2, first));
     CHECK(gorseplumb_end_heap(&machine) == GORSEPLUMB_OK);
 }
 
-/* There are no other worlds: what tells of no machine comes before what makes none. */
-static void unknown_worlds(void) {
+/* No machine serves another version: what tells of no machine comes before what makes none. */
+static void serves_no_other(void) {
     struct gorseplumb_manifest manifest = two_partitions(2);
     CHECK(gorseplumb_boot_manifest(&machine, &manifest) == GORSEPLUMB_MANIFEST_WRONG_KIND);
     manifest.ram_blocks = 0;
@@ -151,9 +151,9 @@ static void unknown_worlds(void) {
 }
 
 int main(void) {
-    two_worlds();
-    one_world();
-    unknown_worlds();
+    serves_1_2();
+    serves_1_1();
+    serves_no_other();
     puts("ok");
     return 0;
 }

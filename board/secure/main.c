@@ -13,14 +13,14 @@ void second_processor(void);
 static struct board board;
 static struct gorseplumb_manifest manifest;
 
-/* The text's machine, which tells memory of the normal world from that of the secure world, moved to where RAM is, with its tables where they are to
- * stand there: a text can't have it at any 2 MiB, nor its tables elsewhere than at RAM's start. */
+/* The text's machine, which serves FF-A 1.2, moved to where RAM is, with its tables where they are to stand there: a text can't say the version, can't
+ * have RAM at any 2 MiB, nor its tables elsewhere than at RAM's start. */
 static void read_manifest(void) {
     size_t size = 0;
     while (manifest_text[size] != '\0') size++;
     if (gorseplumb_read_manifest((const uint8_t *)manifest_text, size, &manifest) != GORSEPLUMB_OK) stop("the manifest is refused");
     uint32_t by = (uint32_t)RAM_BASE - manifest.ram_base;
-    manifest.has_security_states = 1;
+    manifest.ffa = GORSEPLUMB_FFA_1_2;
     manifest.ram_base += by;
     manifest.tables = (uint32_t)(TABLES_AT - RAM_BASE) / GORSEPLUMB_PAGE_SIZE;
     for (uint32_t i = 0; i < manifest.endpoint_count; i++) {

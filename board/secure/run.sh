@@ -162,7 +162,7 @@ boot() {
     tr -d '\r' <"$to/uart" >"$to/linux"
     [[ -z $late ]] || fail "$name: $late"
     part "$to/core"
-    "$player" run --worlds --processors "$processors" "$to/manifest" "$to/trace" >"$to/expected" || fail "$name: the program does not play what the normal world did"
+    "$player" run --ffa 1.2 --processors "$processors" "$to/manifest" "$to/trace" >"$to/expected" || fail "$name: the program does not play what the normal world did"
     if [[ $keep ]]; then for kind in uart core trace found expected; do cp "$to/$kind" "$keep/$name.$kind"; done; fi
 }
 

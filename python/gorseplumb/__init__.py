@@ -10,8 +10,8 @@ from .access import AccessMap, Cell, Run
 from .batch import Batch, Outcomes
 from .checks import Check, Flaw
 from .codes import MANAGER, NORMAL_WORLD, PAGE_SIZE
-from .codes import About, Cause, ErrorCode, Fault, Form, Function, GrantKind, HintKind, Kind, Obstacle, Properties
-from .codes import Right, RunState
+from .codes import About, Cause, ErrorCode, Fault, Ffa, Form, Function, GrantKind, HintKind, Kind, Obstacle
+from .codes import Properties, Right, RunState
 from .descriptors import DataAccess, InstructionAccess, Offer, PageRange, Receiver
 from .descriptors import Relinquish, Retrieve, RetrieveResponse
 from .errors import (
@@ -88,6 +88,7 @@ __all__ = [
     "Fault",
     "Faulted",
     "Fetch",
+    "Ffa",
     "Flaw",
     "Form",
     "Function",

@@ -13,7 +13,7 @@ from typing import Any, Callable
 
 from .errors import LibraryError
 
-DECLARATIONS = 10
+DECLARATIONS = 11
 """The number of the declarations that this file has."""
 
 MOST_REGIONS = 16
@@ -69,7 +69,7 @@ class Manifest(Structure):
         ("ram_blocks", c_uint32),
         ("endpoint_count", c_uint32),
         ("endpoints", Endpoint * MOST_ENDPOINTS),
-        ("has_security_states", c_uint32),
+        ("ffa", c_uint32),
         ("tables", c_uint32),
     ]
 

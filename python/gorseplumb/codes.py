@@ -196,6 +196,14 @@ class Form(Named):
         return "1.1" if self is Form.FFA_1_1 else "compact"
 
 
+class Ffa(Named):
+    """The version of FF-A that a machine serves, from its boot on. One that serves 1.2 tells memory of the normal world's
+    regions, which is non-secure, from all other, which is secure."""
+
+    V1_1 = 0
+    V1_2 = 1
+
+
 class Kind(Named):
     """The kind of a memory transaction, as flags of a descriptor tell it."""
 

@@ -192,7 +192,7 @@ class Retrieve:
 @dataclass(frozen=True, slots=True)
 class RetrieveResponse:
     """What FFA_MEM_RETRIEVE_RESP leaves in RX: `receiver` has the right that it holds from now on. Only of a machine that
-    tells worlds apart are pages told to be `non_secure`."""
+    serves FF-A 1.2 are pages told to be `non_secure`."""
 
     kind: Kind
     sender: int

@@ -11,7 +11,7 @@ from typing import Sequence
 
 from . import _library as c
 from ._library import library
-from .codes import MANAGER, NORMAL_WORLD, Answer, Cause, Form, Properties, Right
+from .codes import MANAGER, NORMAL_WORLD, Answer, Cause, Ffa, Form, Properties, Right
 from .errors import LibraryError, ManifestRefused, OutOfMemory, WrongRamSize
 from .hexadecimal import by_fields
 from .misuse import check_each, check_member_or_number, check_number, check_numbers, file_hint, refuse
@@ -56,15 +56,14 @@ class Endpoint:
 
 @dataclass(frozen=True)
 class Manifest:
-    """RAM, from `ram_base` on in blocks of 2 MiB, and the endpoints in their order. Where `has_security_states` is set, the
-    machine tells memory of the normal world's regions, which is non-secure, from all other, which is secure. The
-    endpoints' tables stand in a row from the page `tables` of RAM on, 2 pages and one for each block for each endpoint,
-    and regions before them or behind. No text says either."""
+    """RAM, from `ram_base` on in blocks of 2 MiB, and the endpoints in their order. `ffa` is the version of FF-A that the
+    machine serves. The endpoints' tables stand in a row from the page `tables` of RAM on, 2 pages and one for each block
+    for each endpoint, and regions before them or behind. No text says either."""
 
     ram_base: int
     ram_blocks: int
     endpoints: Sequence[Endpoint]
-    has_security_states: bool = False
+    ffa: Ffa = Ffa.V1_1
     tables: int = 0
 
     __repr__ = by_fields
@@ -72,8 +71,7 @@ class Manifest:
     def __post_init__(self) -> None:
         check_numbers(self, "ram_base", "ram_blocks", "tables")
         check_each("endpoints", self.endpoints, Endpoint)
-        if not isinstance(self.has_security_states, bool):
-            refuse("has_security_states", "True or False", self.has_security_states)
+        check_member_or_number("ffa", self.ffa, Ffa)
 
     @classmethod
     def read(cls, text: str | bytes | os.PathLike[str]) -> Manifest:
@@ -83,10 +81,10 @@ class Manifest:
         raw = c.Manifest()
         checked_boot(library.read_manifest(data, len(data), raw), text, data)
         endpoints = [_endpoint(it, place) for place, it in enumerate(raw.endpoints[: raw.endpoint_count])]
-        return cls(raw.ram_base, raw.ram_blocks, endpoints, bool(raw.has_security_states), raw.tables)
+        return cls(raw.ram_base, raw.ram_blocks, endpoints, Ffa(raw.ffa), raw.tables)
 
     def text(self) -> str:
-        """The same as the text of a manifest, but for `has_security_states` and `tables`."""
+        """The same as the text of a manifest, but for `ffa` and `tables`."""
         lines = [f"ram_base = 0x{self.ram_base:08X}", f"ram_blocks = {self.ram_blocks}"]
         for endpoint in self.endpoints:
             lines += ["", "[[endpoint]]", f'version = "{endpoint.form.text}"']
@@ -110,7 +108,7 @@ class Manifest:
         )
         for number, (place, endpoint) in enumerate(zip(raw.endpoints, self.endpoints)):
             _put_endpoint(place, endpoint, MANAGER + number if number else NORMAL_WORLD)
-        raw.has_security_states = int(self.has_security_states)
+        raw.ffa = _fit("ffa", int(self.ffa), Cause.WRONG_KIND)
         raw.tables = _fit("tables", self.tables, Cause.TABLES_OUTSIDE)
         return raw
 

@@ -9,7 +9,7 @@ from typing import Iterator, NamedTuple
 import pytest
 from conftest import TOP
 
-from gorseplumb import Call, Fetch, HintKind, Load, Machine, Manifest, Store, play
+from gorseplumb import Call, Fetch, Ffa, HintKind, Load, Machine, Manifest, Store, play
 from gorseplumb.trace import Player
 
 TABLE = (TOP / "tests" / "tables.d" / "explained.table").read_text()
@@ -17,10 +17,10 @@ MANIFEST = (TOP / "tests" / "rows" / "machine.toml").read_text()
 
 
 class Row(NamedTuple):
-    """A trace, and the reason of its last line, on a machine that may tell worlds apart."""
+    """A trace, and the reason of its last line, on a machine that serves this version of FF-A."""
 
     manifest: str
-    has_worlds: bool
+    ffa: Ffa
     lines: list[str]
     told: str
 
@@ -30,10 +30,11 @@ def rows() -> Iterator[Row]:
     for test in TABLE.split("\ntest ")[1:]:
         head, _, body = test.partition("\nrows\n")
         before = re.findall(r"^\| (\w.*)$", head, re.M)
+        ffa = Ffa.V1_2 if "--ffa 1.2" in head else Ffa.V1_1
         for row in re.findall(r"^.* => .*$", body, re.M):
             *changed, trace, told = row.split(" => ")
             manifest = MANIFEST.replace(changed[0], changed[1], 1) if changed else MANIFEST
-            yield Row(manifest, "--worlds" in head, [*before, *trace.split("/")], told)
+            yield Row(manifest, ffa, [*before, *trace.split("/")], told)
 
 
 # A machine of the library has several processors. So it serves one more call, and notifications of several contexts.
@@ -46,7 +47,7 @@ ROWS = [row for row in rows() if not row.told.startswith(OTHERWISE)]
 
 
 def booted(row: Row) -> Machine:
-    return Machine(replace(Manifest.read(row.manifest), has_security_states=row.has_worlds))
+    return Machine(replace(Manifest.read(row.manifest), ffa=row.ffa))
 
 
 @pytest.mark.parametrize("row", ROWS, ids=range(len(ROWS)))

@@ -67,7 +67,7 @@ def test_names_the_member_that_is_meant() -> None:
         ),
         (lambda: Endpoint([region], uuid=odd[5]), f"uuid is a UUID, and not the str '{odd[5]}': give UUID('{odd[5]}')"),
         (lambda: Region(odd[6], 16), "base is a number, and not the str '40010000': give 0x40010000"),
-        (lambda: Manifest(0x40000000, 1, [], odd[4]), "has_security_states is True or False, and not the str 'all'"),
+        (lambda: Manifest(0x40000000, 1, [], odd[4]), "ffa is a Ffa, and not the str 'all': give Ffa.V1_1 or Ffa.V1_2"),
         (lambda: Manifest(odd[6], 1, []), "ram_base is a number, and not the str '40010000': give 0x40010000"),
         (lambda: Endpoint([odd[7]]), "regions[0] is a Region, and not the tuple (0x40010000, 0x10)"),
         (lambda: Manifest(0x40000000, 1, [odd[7]]), "endpoints[0] is an Endpoint, and not the tuple (0x40010000, 0x10)"),
@@ -128,6 +128,7 @@ def test_says_where_a_text_is_refused(program: Program) -> None:
 def test_says_where_values_are_refused() -> None:
     first, second = PARTITIONS.endpoints[:2]
     many = Endpoint([Region(0x40010000 + 4096 * place, 1) for place in range(17)])
+    odd: list[Any] = [2, 1 << 32]  # a type checker refuses these
     for manifest, cause, endpoint, region in [
         (Manifest(0, 2, [first]), Cause.RAM_BASE, None, None),
         (Manifest(0x40000000, 2, [first, first]), Cause.UUID, 0x8001, None),
@@ -135,6 +136,8 @@ def test_says_where_values_are_refused() -> None:
         (Manifest(0x40000000, 2, [first, many]), Cause.REGION_COUNT, 0x8001, None),
         (Manifest(0x40000000, 2, [Endpoint([Region(0x40010000, 1), Region(1 << 32, 1)])]), Cause.REGION_OUTSIDE, 0, 2),
         (Manifest(0x40000000, 2, [Endpoint([Region(0x40010000, 1, Right.NONE)])]), Cause.WRONG_KIND, 0, 1),
+        (Manifest(0x40000000, 2, [first], odd[0]), Cause.WRONG_KIND, None, None),
+        (Manifest(0x40000000, 2, [first], odd[1]), Cause.WRONG_KIND, None, None),
     ]:
         with pytest.raises(ManifestRefused) as refused:
             Machine(manifest)

@@ -11,8 +11,8 @@ from enum import IntEnum
 from conftest import TOP
 
 import gorseplumb
-from gorseplumb import About, Cause, Check, ErrorCode, Fault, Flaw, Form, Function, GrantKind, HintKind, Obstacle, Right
-from gorseplumb import RunState
+from gorseplumb import About, Cause, Check, ErrorCode, Fault, Ffa, Flaw, Form, Function, GrantKind, HintKind, Obstacle
+from gorseplumb import Right, RunState
 from gorseplumb import _library as c
 from gorseplumb._library import library
 from gorseplumb.codes import Answer
@@ -71,6 +71,8 @@ def test_numbers_are_those_of_the_header() -> None:
     for start, members in groups.items():
         of_header = {name: number for name, number in told.items() if name.startswith(start)}
         assert of_header == {f"{start}{it.name}": int(it) for it in members}, start
+    versions = {name.replace("FFA_", "V"): number for name, number in told.items() if name.startswith("FFA_")}
+    assert versions == {it.name: int(it) for it in Ffa}
     kinds = {name: number for name, number in told.items() if name.startswith(("KIND_", "OPERATION_"))}
     assert kinds == {name: getattr(c, name) for name in kinds} and kinds
     for name in ("MOST_REGIONS", "MOST_ENDPOINTS", "MOST_BLOCKS", "MOST_RANGES"):

@@ -1,5 +1,5 @@
 # SPDX-License-Identifier: MIT OR Apache-2.0
-"""Machines that tell non-secure memory from secure memory. Expected are the manual's rules: docs/MEMORY.md, "Worlds"."""
+"""FF-A 1.2, in which memory is secure or non-secure. Expected are the manual's rules: docs/MEMORY.md, "Worlds"."""
 from __future__ import annotations
 
 from dataclasses import replace
@@ -7,11 +7,11 @@ from dataclasses import replace
 import pytest
 from conftest import EXAMPLES
 
-from gorseplumb import Check, DataAccess, Denied, Function, Kind, Machine, Manifest, Offer, PageRange, Receiver
+from gorseplumb import Check, DataAccess, Denied, Ffa, Function, Kind, Machine, Manifest, Offer, PageRange, Receiver
 from gorseplumb import Retrieve, RetrieveResponse
 
-ONE = Manifest.read(EXAMPLES / "machine.toml")
-TWO = replace(ONE, has_security_states=True)
+FFA_1_1 = Manifest.read(EXAMPLES / "machine.toml")
+FFA_1_2 = replace(FFA_1_1, ffa=Ffa.V1_2)
 NORMAL, SECURE = PageRange(0x40010000, 1), PageRange(0x40020000, 1)
 TX, TX_1 = 0x4001E000, 0x4002E000
 
@@ -38,9 +38,9 @@ def run_first(manifest: Manifest) -> tuple[Machine, RetrieveResponse]:
 
 
 def test_tells_worlds_apart() -> None:
-    machine, response = run_first(TWO)
+    machine, response = run_first(FFA_1_2)
     with machine:
-        assert response.non_secure and machine.manifest.has_security_states
+        assert response.non_secure and machine.manifest.ffa is Ffa.V1_2
         for function in (Function.FFA_MEM_RETRIEVE_REQ, Function.FFA_MEM_RETRIEVE_REQ_64):
             assert machine.call(Function.FFA_FEATURES, function).x[:3] == (Function.FFA_SUCCESS, 0, 2)
         with pytest.raises(Denied) as denied:
@@ -51,14 +51,14 @@ def test_tells_worlds_apart() -> None:
 
 
 def test_tells_nothing_unasked() -> None:
-    machine, response = run_first(ONE)
+    machine, response = run_first(FFA_1_1)
     with machine:
-        assert not response.non_secure and not machine.manifest.has_security_states
+        assert not response.non_secure and machine.manifest.ffa is Ffa.V1_1
         told = machine.call(Function.FFA_FEATURES, Function.FFA_MEM_RETRIEVE_REQ)
         assert told.x[:3] == (Function.FFA_SUCCESS, 0, 0)
         assert machine.send(shares(0x8001, 0, SECURE), TX_1).handle == 0x0000800100000001
 
 
 def test_no_text_says_it() -> None:
-    assert TWO.text() == ONE.text() and not Manifest.read(TWO.text()).has_security_states
-    assert TWO != ONE and repr(TWO).endswith("has_security_states=True, tables=0)")
+    assert FFA_1_2.text() == FFA_1_1.text() and Manifest.read(FFA_1_2.text()).ffa is Ffa.V1_1
+    assert FFA_1_2 != FFA_1_1 and repr(FFA_1_2).endswith("ffa=Ffa.V1_2, tables=0)")

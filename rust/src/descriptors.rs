@@ -453,8 +453,7 @@ pub struct RetrieveResponse {
     pub zeroed: bool,
     /// The offer's tag.
     pub tag: u64,
-    /// Whether the pages are told to be non-secure, as only a machine [with security
-    /// states](crate::Manifest::with_security_states) tells it.
+    /// Whether the pages are told to be non-secure, as only a machine of [FF-A 1.2](crate::Ffa::V1_2) tells it.
     pub non_secure: bool,
     count: usize,
     ranges: [PageRange; MOST_RANGES],

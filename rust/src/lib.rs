@@ -163,7 +163,7 @@ pub use layout::DescriptorBytes;
 pub use lists::{Operation, Outcome, Told};
 pub use machine::{Change, Description, Machine, Range};
 pub use manifest::{
-    CountError, Endpoint, Manifest, Properties, Region, Rights, Version, MOST_BLOCKS, MOST_ENDPOINTS, MOST_REGIONS,
+    CountError, Endpoint, Ffa, Manifest, Properties, Region, Rights, Version, MOST_BLOCKS, MOST_ENDPOINTS, MOST_REGIONS,
 };
 pub use named::{decode, encode, encode_words, ArgumentError, Named};
 pub use names::{call_name, declarations, version};

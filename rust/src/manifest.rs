@@ -231,6 +231,18 @@ impl Endpoint {
     }
 }
 
+/// The version of FF-A that a machine serves, from its boot on.
+#[derive(Clone, Copy, Debug, Default, PartialEq, Eq, Hash)]
+#[repr(u32)]
+pub enum Ffa {
+    /// FF-A 1.1. All memory is alike.
+    #[default]
+    V1_1 = raw::FFA_1_1,
+    /// FF-A 1.2. Memory of the normal world's regions is non-secure, and who retrieves it is told so. All other memory is
+    /// secure, and can't be sent to the normal world.
+    V1_2 = raw::FFA_1_2,
+}
+
 /// A manifest as numbers. Its counts are those that there may be; whether it describes a machine, a boot says.
 #[derive(Clone, Copy, PartialEq, Eq)]
 #[repr(transparent)]
@@ -244,7 +256,7 @@ impl fmt::Debug for Manifest {
             .field("ram_base", &Hexadecimal(ram_base))
             .field("ram_blocks", &ram_blocks)
             .field("endpoints", &First(endpoints, endpoint_count, Endpoint))
-            .field("has_security_states", &self.has_security_states())
+            .field("ffa", &self.ffa())
             .field("tables", &self.tables())
             .finish()
     }
@@ -256,7 +268,7 @@ impl Manifest {
         ram_blocks: 0,
         endpoint_count: 0,
         endpoints: [Endpoint::NONE.0; MOST_ENDPOINTS],
-        has_security_states: 0,
+        ffa: Ffa::V1_1 as u32,
         tables: 0,
     });
 
@@ -301,20 +313,22 @@ impl Manifest {
         Ok(Manifest(manifest))
     }
 
-    /// The same, whose machine has security states, or doesn't. With them, memory of the normal world's regions is non-secure,
-    /// and so told to who retrieves it. All other memory is secure, and can't be sent to the normal world. Without them, all
-    /// memory is alike. The text of a manifest can't say it, and one that [was read](Manifest::read) has none.
+    /// The same, whose machine serves this version of FF-A. The text of a manifest can't say it, and one that
+    /// [was read](Manifest::read) has [`Ffa::V1_1`].
     #[must_use]
-    pub const fn with_security_states(self, has_security_states: bool) -> Manifest {
+    pub const fn with_ffa(self, ffa: Ffa) -> Manifest {
         let mut manifest = self.0;
-        manifest.has_security_states = has_security_states as u32;
+        manifest.ffa = ffa as u32;
         Manifest(manifest)
     }
 
-    /// Whether its machine tells non-secure memory from secure memory.
+    /// The version of FF-A that its machine serves.
     #[must_use]
-    pub const fn has_security_states(&self) -> bool {
-        self.0.has_security_states != 0
+    pub const fn ffa(&self) -> Ffa {
+        match self.0.ffa {
+            raw::FFA_1_1 => Ffa::V1_1,
+            _ => Ffa::V1_2,
+        }
     }
 
     /// The same, whose endpoints' tables begin at this page of RAM, and not at its first, which is 0: 2 pages and one for each

@@ -8,7 +8,7 @@
 use core::ffi::c_void;
 
 /// The number of the declarations that stand here.
-pub const DECLARATIONS: u32 = 10;
+pub const DECLARATIONS: u32 = 11;
 
 /// What a question answers where there is nothing to tell.
 pub const NOTHING: u32 = u32::MAX;
@@ -101,6 +101,9 @@ pub struct Endpoint {
     pub regions: [Region; MOST_REGIONS],
 }
 
+pub const FFA_1_1: u32 = 0;
+pub const FFA_1_2: u32 = 1;
+
 #[derive(Clone, Copy, Debug, PartialEq, Eq)]
 #[repr(C)]
 pub struct Manifest {
@@ -108,7 +111,7 @@ pub struct Manifest {
     pub ram_blocks: u32,
     pub endpoint_count: u32,
     pub endpoints: [Endpoint; MOST_ENDPOINTS],
-    pub has_security_states: u32,
+    pub ffa: u32,
     pub tables: u32,
 }
 

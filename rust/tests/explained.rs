@@ -4,7 +4,7 @@ mod common;
 
 use common::explained::explain;
 use common::top;
-use gorseplumb::{Machine, Manifest};
+use gorseplumb::{Ffa, Machine, Manifest};
 use std::fs;
 
 /// What a machine of several processors answers otherwise: it serves one more call, and notifications of several contexts.
@@ -16,7 +16,7 @@ const OTHERWISE: [&str; 3] = [
 
 /// Compares the reason of the last line of a trace, whose first lines are those before. Of a row with four fields the
 /// first two are what stands in the manifest, and what shall.
-fn compare(row: &str, manifest: &str, has_worlds: bool, before: &str) {
+fn compare(row: &str, manifest: &str, ffa: Ffa, before: &str) {
     let fields: Vec<&str> = row.split(" => ").collect();
     let (manifest, trace, told) = match fields[..] {
         [trace, told] => (manifest.to_owned(), trace, told),
@@ -26,7 +26,7 @@ fn compare(row: &str, manifest: &str, has_worlds: bool, before: &str) {
     if OTHERWISE.iter().any(|other| told.starts_with(other)) {
         return;
     }
-    let manifest = Manifest::read(manifest).unwrap().with_security_states(has_worlds);
+    let manifest = Manifest::read(manifest).unwrap().with_ffa(ffa);
     let text = explain(&mut Machine::boot(&manifest).unwrap(), &(before.to_owned() + &trace.replace('/', "\n")));
     assert_eq!(text.lines().last(), Some(format!("# refused: {told}").as_str()), "{row}");
 }
@@ -40,8 +40,9 @@ fn rows_are_told_as_the_program_tells_them() {
         let (head, rows) = test.split_once("\nrows\n").unwrap();
         let lines = head.lines().filter_map(|line| line.strip_prefix("| ")).filter(|line| !line.starts_with('{'));
         let before: String = lines.map(|line| line.to_owned() + "\n").collect();
+        let ffa = if head.contains("--ffa 1.2") { Ffa::V1_2 } else { Ffa::V1_1 };
         for row in rows.lines().filter(|line| line.contains(" => ")) {
-            compare(row, &manifest, head.contains("--worlds"), &before);
+            compare(row, &manifest, ffa, &before);
             count += 1;
         }
     }

@@ -46,7 +46,7 @@ fn operations() -> Vec<(String, i64)> {
     rows.extend(fields!(Outcome, "outcome", kind runner value x));
     rows.extend(fields!(Region, "region", base pages rights));
     rows.extend(fields!(Endpoint, "endpoint", version properties uuid region_count regions));
-    rows.extend(fields!(Manifest, "manifest", ram_base ram_blocks endpoint_count endpoints has_security_states tables));
+    rows.extend(fields!(Manifest, "manifest", ram_base ram_blocks endpoint_count endpoints ffa tables));
     rows.extend(fields!(Refusal, "refusal", cause endpoint region line column words));
     rows.extend(fields!(Range, "range", address size));
     rows.extend(fields!(Change, "change", endpoint range_count ranges));
@@ -54,7 +54,7 @@ fn operations() -> Vec<(String, i64)> {
     rows.extend(numbers!(KIND_REGISTERS KIND_DATA KIND_DONE KIND_FAULT KIND_NO_MACHINE KIND_BAD_SIZE));
     rows.extend(numbers!(OK NO_MEMORY OCCUPIED NO_LIST NO_PAGE HAS_PAGES NO_MACHINE WRONG_COUNT NOTHING));
     rows.extend(numbers!(KIND_RESUMED));
-    rows.extend(numbers!(MOST_REGIONS MOST_ENDPOINTS MOST_BLOCKS MOST_RANGES MOST_PROCESSORS));
+    rows.extend(numbers!(MOST_REGIONS MOST_ENDPOINTS MOST_BLOCKS MOST_RANGES MOST_PROCESSORS FFA_1_1 FFA_1_2));
     rows
 }
 

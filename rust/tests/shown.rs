@@ -75,7 +75,7 @@ fn manifests() {
         Manifest::new(0x4000_0000, 1, &[world]),
         "Manifest { ram_base: 0x40000000, ram_blocks: 1, endpoints: [Endpoint { version: V1_1, \
          properties: Properties(2), uuid: 0x0, \
-         regions: [Region { base: 0x40010000, pages: 16, rights: Rw }] }], has_security_states: false, tables: 0 }",
+         regions: [Region { base: 0x40010000, pages: 16, rights: Rw }] }], ffa: V1_1, tables: 0 }",
     );
     let manifest = format!("{MACHINE:?}");
     assert!(manifest.contains("uuid: 0x112233445566778899AABBCCDDEEFF,"), "{manifest}");

@@ -353,7 +353,7 @@ fn response_of_non_secure_memory() {
         Endpoint::partition([1; 16], FORM, Properties::NONE, &[region(tx(FIRST), 2)]),
         Endpoint::partition([2; 16], FORM, Properties::NONE, &[region(tx(SECOND), 2)]),
     ];
-    let mut machine = Machine::boot(&Manifest::new(RAM as u32, 1, &endpoints).with_security_states(true)).unwrap();
+    let mut machine = Machine::boot(&Manifest::new(RAM as u32, 1, &endpoints).with_ffa(Ffa::V1_2)).unwrap();
     map_all(&mut machine);
     let (receivers, ranges) = ([Receiver::new(FIRST)], LEND.ranges);
     let donate = Offer::new(Kind::Donate, WORLD, &receivers, ranges);

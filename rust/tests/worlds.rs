@@ -1,5 +1,5 @@
 // SPDX-License-Identifier: MIT OR Apache-2.0
-//! Machines that tell non-secure memory from secure memory, by docs/MEMORY.md, "Worlds".
+//! Machines of FF-A 1.2, which tell non-secure memory from secure memory, by docs/MEMORY.md, "Worlds".
 mod common;
 
 use common::example;
@@ -25,8 +25,8 @@ fn share(machine: &mut Machine, tx: u64, sender: Id, receiver: Id, page: u64) ->
 }
 
 /// The machine, in which 8001 runs, and whether it was told that what the normal world shared with it is non-secure.
-fn boot(has_security_states: bool) -> (Machine, bool) {
-    let mut machine = Machine::boot(&MACHINE.with_security_states(has_security_states)).unwrap();
+fn boot(ffa: Ffa) -> (Machine, bool) {
+    let mut machine = Machine::boot(&MACHINE.with_ffa(ffa)).unwrap();
     machine.call(&Function::RxtxMap.with([TX, TX + RX, 1])).done().unwrap();
     let handle = share(&mut machine, TX, Id::NORMAL_WORLD, FIRST, NORMAL).unwrap();
     machine.call(&Function::Run.with([0x8001_0000])).done().unwrap();
@@ -49,7 +49,7 @@ fn properties(machine: &mut Machine) -> [u64; 2] {
 
 #[test]
 fn tells_worlds_apart() {
-    let (mut machine, told) = boot(true);
+    let (mut machine, told) = boot(Ffa::V1_2);
     assert!(told);
     assert_eq!(properties(&mut machine), [2, 2]);
     assert_eq!(
@@ -61,7 +61,7 @@ fn tells_worlds_apart() {
 
 #[test]
 fn tells_nothing_unasked() {
-    let (mut machine, told) = boot(false);
+    let (mut machine, told) = boot(Ffa::V1_1);
     assert!(!told);
     assert_eq!(properties(&mut machine), [0, 0]);
     assert_eq!(share(&mut machine, TX_1, FIRST, Id::NORMAL_WORLD, SECURE), Ok(Handle(0x0000_8001_0000_0001)));
@@ -70,9 +70,9 @@ fn tells_nothing_unasked() {
 #[test]
 fn no_text_says_it() {
     let read = Manifest::read(&*example("machine.toml")).unwrap();
-    assert!(!read.has_security_states() && !MACHINE.has_security_states());
+    assert_eq!([read.ffa(), MACHINE.ffa()], [Ffa::default(); 2]);
     assert_eq!(read, MACHINE);
-    let told = read.with_security_states(true);
-    assert!(told.has_security_states());
-    assert_eq!(told.with_security_states(false), read);
+    let told = read.with_ffa(Ffa::V1_2);
+    assert_eq!(told.ffa(), Ffa::V1_2);
+    assert_eq!(told.with_ffa(Ffa::V1_1), read);
 }

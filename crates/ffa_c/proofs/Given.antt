@@ -6,7 +6,7 @@ use Rattle.std.specs.Option.{option_map}
 use Rattle.ffa_model.specs.declared.endpoint.Endpoint.{Endpoint}
 use Rattle.ffa_model.specs.declared.endpoint.Region.{Region}
 use Rattle.ffa_model.specs.declared.limits.TheConstants.{MOST_ENDPOINTS, MOST_REGIONS}
-use Rattle.ffa_model.specs.declared.manifest.Worlds.{Worlds}
+use Rattle.ffa_model.specs.declared.manifest.Ffa.{Ffa}
 use Rattle.ffa_model.specs.Manifest.{is_placed, regions_of}
 use Rattle.ffa_manifest.specs.Document.{Parts}
 use Rattle.ffa_manifest.specs.Parts.{Tests, endpoint_tests, first_cause, first_failure, parts_from, region_tests, tests_of, tests_of_each}
@@ -16,7 +16,7 @@ use Rattle.ffa_manifest.specs.declared.error.ManifestError.TheVariants.{NoMemory
 use Rattle.ffa_c.specs.declared.manifest.CEndpoint.{CEndpoint}
 use Rattle.ffa_c.specs.declared.manifest.CManifest.{CManifest}
 use Rattle.ffa_c.specs.declared.manifest.CRegion.{CRegion}
-use Rattle.ffa_c.specs.Given.{counted, each_given, endpoint_given, endpoints_given, parts_given, refusal_of, region_given, rights_given, version_given, worlds_given}
+use Rattle.ffa_c.specs.Given.{counted, each_given, endpoint_given, endpoints_given, parts_given, refusal_of, region_given, rights_given, version_given, ffa_given}
 
 -- ---- what tells parts
 
@@ -59,7 +59,7 @@ parts-in-room : (p : CManifest) → InRoom (parts_given p)
 parts-in-room p =
     then-in-room (counted endpoint_given MOST_ENDPOINTS EndpointCount p.endpoint_count p.endpoints) _
     (counted-in-room endpoint_given MOST_ENDPOINTS p.endpoint_count EndpointCount p.endpoints (λ same. cc) endpoint-in-room) (λ endpoints.
-    then-in-room (or_cause WrongKind (worlds_given p.has_security_states)) _ (or-in-room WrongKind (worlds_given p.has_security_states) (λ same. cc)) (λ worlds. tt))
+    then-in-room (or_cause WrongKind (ffa_given p.ffa)) _ (or-in-room WrongKind (ffa_given p.ffa) (λ same. cc)) (λ ffa. tt))
 
 -- ---- what makes a machine of them
 
@@ -128,15 +128,15 @@ refused-in-room p (Err cause) refused = refusal-in-room p cause refused
 
 -- ---- numbers that tell parts
 
-pub parts_told : (given : CManifest) (es : List Endpoint) (worlds : Worlds) → endpoints_given given ≡ Ok es → Some worlds ≡ worlds_given given.has_security_states
-    → parts_given given ≡ Ok (record { ram_base = given.ram_base; ram_blocks = given.ram_blocks; tables = given.tables; endpoints = es; worlds = worlds })
-parts_told given es worlds told is =
-    let with_worlds : List Endpoint → Worlds → Result Parts ManifestError = λ es worlds.
-    Ok (record { ram_base = given.ram_base; ram_blocks = given.ram_blocks; tables = given.tables; endpoints = es; worlds = worlds }) in
-    ap (λ r. r >>= λ es. or_cause WrongKind (worlds_given given.has_security_states) >>= λ worlds. with_worlds es worlds) told
-    ∙ ap (λ o. or_cause WrongKind o >>= λ worlds. with_worlds es worlds) (sym is)
+pub parts_told : (given : CManifest) (es : List Endpoint) (ffa : Ffa) → endpoints_given given ≡ Ok es → Some ffa ≡ ffa_given given.ffa
+    → parts_given given ≡ Ok (record { ram_base = given.ram_base; ram_blocks = given.ram_blocks; tables = given.tables; endpoints = es; ffa = ffa })
+parts_told given es ffa told is =
+    let with_ffa : List Endpoint → Ffa → Result Parts ManifestError = λ es ffa.
+    Ok (record { ram_base = given.ram_base; ram_blocks = given.ram_blocks; tables = given.tables; endpoints = es; ffa = ffa }) in
+    ap (λ r. r >>= λ es. or_cause WrongKind (ffa_given given.ffa) >>= λ ffa. with_ffa es ffa) told
+    ∙ ap (λ o. or_cause WrongKind o >>= λ ffa. with_ffa es ffa) (sym is)
 
--- no test of parts looks at worlds
+-- no test of parts looks at the version of FF-A
 pub cause_aside : (parts : Parts) → first_cause parts ≡ first_cause (parts_from parts.ram_base parts.tables parts.ram_blocks parts.endpoints)
 unfolding first_cause tests_of
 cause_aside parts = refl

@@ -13,8 +13,8 @@ use Rattle.ffa_model.specs.declared.endpoint.Region.{Region}
 use Rattle.ffa_model.specs.declared.endpoint.Version as versions
 use Rattle.ffa_model.specs.declared.endpoint.Version.TheVariants.{Compact, V1_1}
 use Rattle.ffa_model.specs.declared.limits.TheConstants.{MOST_ENDPOINTS, MOST_REGIONS}
-use Rattle.ffa_model.specs.declared.manifest.Worlds.{Worlds}
-use Rattle.ffa_model.specs.declared.manifest.Worlds.TheVariants.{One, Two}
+use Rattle.ffa_model.specs.declared.manifest.Ffa.{Ffa}
+use Rattle.ffa_model.specs.declared.manifest.Ffa.TheVariants as served
 use Rattle.ffa_model.specs.declared.rights.Data as rights
 use Rattle.ffa_model.specs.declared.rights.Data.TheVariants.{Ro, Rw}
 use Rattle.ffa_model.specs.declared.rights.Rights.{Rights}
@@ -28,8 +28,8 @@ use Rattle.ffa_manifest.proofs.AcceptedParts.{passed_tests}
 use Rattle.ffa_c.specs.declared.manifest.CEndpoint.{CEndpoint}
 use Rattle.ffa_c.specs.declared.manifest.CRegion.{CRegion}
 use Rattle.ffa_c.specs.Border.{access_code, exec_code, level_code}
-use Rattle.ffa_c.specs.Given.{Gives, counted, each_given, endpoint_given, parts_given, region_given, regions_given, rights_given, version_given, worlds_given}
-use Rattle.ffa_c.specs.Numbers.{endpoint_numbers, numbers, padded, region_numbers, version_number, worlds_number}
+use Rattle.ffa_c.specs.Given.{Gives, counted, each_given, endpoint_given, parts_given, region_given, regions_given, rights_given, version_given, ffa_given}
+use Rattle.ffa_c.specs.Numbers.{endpoint_numbers, numbers, padded, region_numbers, version_number, ffa_number}
 use Rattle.ffa_c.specs.Reading.{IsClear, no_endpoint, no_region}
 
 -- ---- what is told is given
@@ -47,9 +47,9 @@ version-again : (v : versions.Version) → version_given (version_number v) ≡ 
 version-again V1_1 = refl
 version-again Compact = refl
 
-worlds-again : (w : Worlds) → worlds_given (worlds_number w) ≡ Some w
-worlds-again One = refl
-worlds-again Two = refl
+ffa-again : (w : Ffa) → ffa_given (ffa_number w) ≡ Some w
+ffa-again served.V1_1 = refl
+ffa-again served.V1_2 = refl
 
 region-again : (r : Region) → region_given (region_numbers r) ≡ Ok r
 region-again r =
@@ -100,12 +100,12 @@ endpoint-again e within =
 
 parts-again : (parts : Parts) → length parts.endpoints ≤ MOST_ENDPOINTS → are_counted parts.endpoints ≡ true → parts_given (numbers parts) ≡ Ok parts
 parts-again parts small all =
-    let with_worlds : List Endpoint → Worlds → Result Parts ManifestError = λ es worlds.
-    Ok (record { ram_base = parts.ram_base; ram_blocks = parts.ram_blocks; tables = parts.tables; endpoints = es; worlds = worlds }) in
-    ap (λ r. r >>= λ es. or_cause WrongKind (worlds_given (worlds_number parts.worlds)) >>= λ worlds. with_worlds es worlds)
+    let with_ffa : List Endpoint → Ffa → Result Parts ManifestError = λ es ffa.
+    Ok (record { ram_base = parts.ram_base; ram_blocks = parts.ram_blocks; tables = parts.tables; endpoints = es; ffa = ffa }) in
+    ap (λ r. r >>= λ es. or_cause WrongKind (ffa_given (ffa_number parts.ffa)) >>= λ ffa. with_ffa es ffa)
     (counted-again endpoint_given endpoint_numbers (λ e. is_from_to 1 MOST_REGIONS (length e.regions.items)) endpoint-again
     MOST_ENDPOINTS EndpointCount no_endpoint parts.endpoints small all)
-    ∙ ap (λ o. or_cause WrongKind o >>= λ worlds. with_worlds parts.endpoints worlds) (worlds-again parts.worlds)
+    ∙ ap (λ o. or_cause WrongKind o >>= λ ffa. with_ffa parts.endpoints ffa) (ffa-again parts.ffa)
 
 -- ---- an accepted manifest's parts make a machine
 

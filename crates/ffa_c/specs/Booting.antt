@@ -39,7 +39,7 @@ cause_number causes.TablesOutside = 25
 -- the machine of these parts in its first state: the tables give its access, by the descriptors of pages and blocks, all
 -- other pages are zeros, and nothing is told of access that changed
 pub record IsFirst (parts : Parts) (s : Snapshot) : Type 0 where
-  pub state : s.state ≡ first parts.worlds parts.ram_base parts.tables parts.ram_blocks parts.endpoints
+  pub state : s.state ≡ first parts.ffa parts.ram_base parts.tables parts.ram_blocks parts.endpoints
   pub agrees : Agrees s.ram s.state
   pub words : AreDescribed parts.tables parts.ram_blocks s.state s.ram
   pub cleared : (p : ℕ) → IsNoTable s.state p → p < length s.ram.pages → page_of s.ram p ≡ replicate 4096 0
@@ -48,7 +48,7 @@ pub record IsFirst (parts : Parts) (s : Snapshot) : Type 0 where
 
 -- the same where pages of its regions have the bytes of pages that are given, and all others but the tables' are zeros
 pub record IsFirstHeld (pages : List (List ℕ)) (parts : Parts) (s : Snapshot) : Type 0 where
-  pub state : s.state ≡ first_held parts.worlds parts.ram_base parts.tables parts.ram_blocks parts.endpoints (λ p. slice_index_or pages p [])
+  pub state : s.state ≡ first_held parts.ffa parts.ram_base parts.tables parts.ram_blocks parts.endpoints (λ p. slice_index_or pages p [])
   pub agrees : Agrees s.ram s.state
   pub words : AreDescribed parts.tables parts.ram_blocks s.state s.ram
   pub cleared :

@@ -7,8 +7,8 @@ use Rattle.ffa_model.specs.declared.endpoint.Endpoint.{Endpoint}
 use Rattle.ffa_model.specs.declared.endpoint.Region.{Region}
 use Rattle.ffa_model.specs.declared.endpoint.Version as versions
 use Rattle.ffa_model.specs.declared.endpoint.Version.TheVariants.{Compact, V1_1}
-use Rattle.ffa_model.specs.declared.manifest.Worlds.{Worlds}
-use Rattle.ffa_model.specs.declared.manifest.Worlds.TheVariants.{One, Two}
+use Rattle.ffa_model.specs.declared.manifest.Ffa.{Ffa}
+use Rattle.ffa_model.specs.declared.manifest.Ffa.TheVariants as served
 use Rattle.ffa_model.specs.declared.rights.Rights.{Rights}
 use Rattle.ffa_model.specs.declared.rights.Data.TheVariants.{Ro, Rw}
 use Rattle.ffa_manifest.specs.Document.{Parts}
@@ -32,8 +32,8 @@ rights_given code =
 abbrev pub version_given : ℕ → Option versions.Version
 version_given code = if code == 0 then Some V1_1 else if code == 1 then Some Compact else None
 
-abbrev pub worlds_given : ℕ → Option Worlds
-worlds_given code = if code == 0 then Some One else if code == 1 then Some Two else None
+abbrev pub ffa_given : ℕ → Option Ffa
+ffa_given code = if code == 0 then Some served.V1_1 else if code == 1 then Some served.V1_2 else None
 
 abbrev pub region_given : CRegion → Result Region ManifestError
 region_given r =
@@ -70,8 +70,8 @@ endpoints_given m = counted endpoint_given MOST_ENDPOINTS EndpointCount m.endpoi
 abbrev pub parts_given : CManifest → Result Parts ManifestError
 parts_given m = do
   endpoints ← endpoints_given m
-  worlds ← or_cause WrongKind (worlds_given m.has_security_states)
-  Ok (record { ram_base = m.ram_base; ram_blocks = m.ram_blocks; tables = m.tables; endpoints = endpoints; worlds = worlds })
+  ffa ← or_cause WrongKind (ffa_given m.ffa)
+  Ok (record { ram_base = m.ram_base; ram_blocks = m.ram_blocks; tables = m.tables; endpoints = endpoints; ffa = ffa })
 
 -- C's numbers tell these parts, and they make a machine
 pub record Gives (given : CManifest) (parts : Parts) : Type 0 where

@@ -7,8 +7,8 @@ use Rattle.ffa_model.specs.declared.endpoint.Endpoint.{Endpoint}
 use Rattle.ffa_model.specs.declared.endpoint.Region.{Region}
 use Rattle.ffa_model.specs.declared.endpoint.Version as versions
 use Rattle.ffa_model.specs.declared.endpoint.Version.TheVariants.{Compact, V1_1}
-use Rattle.ffa_model.specs.declared.manifest.Worlds.{Worlds}
-use Rattle.ffa_model.specs.declared.manifest.Worlds.TheVariants.{One, Two}
+use Rattle.ffa_model.specs.declared.manifest.Ffa.{Ffa}
+use Rattle.ffa_model.specs.declared.manifest.Ffa.TheVariants as served
 use Rattle.ffa_manifest.specs.Document.{Parts}
 use Rattle.ffa_c.specs.declared.manifest.CEndpoint.{CEndpoint}
 use Rattle.ffa_c.specs.declared.manifest.CManifest.{CManifest}
@@ -24,9 +24,9 @@ abbrev pub version_number : versions.Version → ℕ
 version_number V1_1 = 0
 version_number Compact = 1
 
-abbrev pub worlds_number : Worlds → ℕ
-worlds_number One = 0
-worlds_number Two = 1
+abbrev pub ffa_number : Ffa → ℕ
+ffa_number served.V1_1 = 0
+ffa_number served.V1_2 = 1
 
 abbrev pub region_numbers : Region → CRegion
 region_numbers r = record { base = r.base; pages = r.pages; rights = access_code (Some r.rights) }
@@ -46,6 +46,6 @@ numbers parts = record {
   ram_blocks = parts.ram_blocks;
   endpoint_count = length parts.endpoints;
   endpoints = padded MOST_ENDPOINTS no_endpoint (map endpoint_numbers parts.endpoints);
-  has_security_states = worlds_number parts.worlds;
+  ffa = ffa_number parts.ffa;
   tables = parts.tables;
 }

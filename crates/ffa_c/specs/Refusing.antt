@@ -19,7 +19,7 @@ use Rattle.ffa_c.specs.declared.manifest.CEndpoint.{CEndpoint}
 use Rattle.ffa_c.specs.declared.manifest.CManifest.{CManifest}
 use Rattle.ffa_c.specs.declared.refusing.CRefusal.{CRefusal}
 use Rattle.ffa_c.specs.Booting.{cause_number}
-use Rattle.ffa_c.specs.Given.{endpoint_given, endpoints_given, parts_given, refusal_of, region_given, version_given, worlds_given}
+use Rattle.ffa_c.specs.Given.{endpoint_given, endpoints_given, parts_given, refusal_of, region_given, version_given, ffa_given}
 
 -- an endpoint's identifier, and a region's number, or what stands for none
 abbrev pub endpoint_told : Option EndpointId → ℕ
@@ -95,7 +95,7 @@ untold_place m =
 abbrev pub place_among : CManifest → Result (List Endpoint) ManifestError → PartsPlace
 place_among m (Err cause) = untold_place m
 place_among m (Ok es) =
-    if is_some (worlds_given m.has_security_states) then place_of (parts_from m.ram_base m.tables m.ram_blocks es) else nowhere
+    if is_some (ffa_given m.ffa) then place_of (parts_from m.ram_base m.tables m.ram_blocks es) else nowhere
 
 abbrev pub given_place : CManifest → PartsPlace
 given_place m = place_among m (endpoints_given m)

@@ -3,7 +3,13 @@
 //! which a call answers in its registers.
 
 /// The number of the header's declarations, raised by each change that a caller has to know of.
-pub const DECLARATIONS: u32 = 10;
+pub const DECLARATIONS: u32 = 11;
+
+/// The machine serves FF-A 1.1.
+pub const FFA_1_1: u32 = 0;
+
+/// The machine serves FF-A 1.2.
+pub const FFA_1_2: u32 = 1;
 
 /// It was done.
 pub const OK: u32 = 0;

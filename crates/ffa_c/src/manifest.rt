@@ -3,14 +3,15 @@
 ghost use Rattle.std.specs.Prelude.{◌≡◌, ◌≤◌, [], Some, None, IfOk, IfErr, length};
 ghost use Rattle.ffa_manifest.specs.Document.{parts_of};
 ghost use Rattle.ffa_manifest.specs.Reading.{Exact};
-ghost use Rattle.ffa_c.specs.Given.{Gives, each_given, endpoint_given, endpoints_given, parts_given, refusal_of, region_given, regions_given, rights_given, version_given, worlds_given};
+ghost use Rattle.ffa_c.specs.Given.{Gives, each_given, endpoint_given, endpoints_given, parts_given, refusal_of, region_given, regions_given, rights_given, version_given, ffa_given};
 
+use crate::codes::{FFA_1_1, FFA_1_2};
 use arrayvec::ArrayVec;
 use bitflags::Flags;
 use ffa_manifest::ManifestError;
 use ffa_model::{
-    Data, Endpoint, MOST_ENDPOINTS, MOST_REGIONS, Manifest, PageNo, Properties, Region, Rights,
-    Version, Worlds,
+    Data, Endpoint, Ffa, MOST_ENDPOINTS, MOST_REGIONS, Manifest, PageNo, Properties, Region,
+    Rights, Version,
 };
 
 /// Pages in a row that an endpoint owns from the start.
@@ -51,8 +52,8 @@ pub struct CManifest {
     /// How many of `endpoints` are given.
     pub endpoint_count: u32,
     pub endpoints: [CEndpoint; MOST_ENDPOINTS],
-    /// Whether the machine tells non-secure memory from secure memory: 0 where it doesn't, 1 where it does.
-    pub has_security_states: u32,
+    /// The version of FF-A that the machine serves: `FFA_1_1` or `FFA_1_2`.
+    pub ffa: u32,
     /// The first page of the tables, counted from RAM's first, which is 0.
     pub tables: u32,
 }
@@ -80,12 +81,12 @@ pub(crate) fn version_of(code: u32) -> Option<Version>
     }
 }
 
-pub(crate) fn worlds_of(code: u32) -> Option<Worlds>
-    ensures { result ≡ worlds_given code }
+pub(crate) fn ffa_of(code: u32) -> Option<Ffa>
+    ensures { result ≡ ffa_given code }
 {
     match code {
-        0 => Some(Worlds::One),
-        1 => Some(Worlds::Two),
+        FFA_1_1 => Some(Ffa::V1_1),
+        FFA_1_2 => Some(Ffa::V1_2),
         _ => None,
     }
 }
@@ -175,7 +176,7 @@ pub(crate) fn manifest_of_numbers(given: &CManifest) -> Result<Manifest, Manifes
     ensures refused { IfErr result (λ e. refusal_of (parts_given given.now) ≡ Some e) }
 {
     let endpoints = counted_endpoints(given)?;
-    let Some(worlds) = worlds_of(given.has_security_states) else {
+    let Some(ffa) = ffa_of(given.ffa) else {
         return Err(ManifestError::WrongKind);
     };
     let manifest = ffa_manifest::of_parts(
@@ -184,5 +185,5 @@ pub(crate) fn manifest_of_numbers(given: &CManifest) -> Result<Manifest, Manifes
         PageNo(given.tables),
         endpoints,
     )?;
-    Ok(manifest.with_worlds(worlds))
+    Ok(manifest.with_ffa(ffa))
 }

@@ -3,15 +3,15 @@
 ghost use Rattle.std.specs.Prelude.{◌≡◌, ◌≢◌, ◌≤◌, length, map};
 ghost use Rattle.ffa_manifest.specs.Document.{parts_of};
 ghost use Rattle.ffa_c.specs.Booting.{IsRefusedFor, TellsCause};
-ghost use Rattle.ffa_c.specs.Numbers.{endpoint_numbers, numbers, padded, region_numbers, version_number, worlds_number};
+ghost use Rattle.ffa_c.specs.Numbers.{endpoint_numbers, numbers, padded, region_numbers, version_number, ffa_number};
 ghost use Rattle.ffa_c.specs.Reading.{IsClear, IsRead, no_endpoint, no_region};
 
 use crate::booting::{manifest_of, number_of};
-use crate::codes::OK;
+use crate::codes::{FFA_1_1, FFA_1_2, OK};
 use crate::kind::code_of;
 use crate::manifest::{CEndpoint, CManifest, CRegion};
 use bitflags::Flags;
-use ffa_model::{Endpoint, MOST_ENDPOINTS, MOST_REGIONS, Manifest, Region, Version, Worlds};
+use ffa_model::{Endpoint, Ffa, MOST_ENDPOINTS, MOST_REGIONS, Manifest, Region, Version};
 use std::alloc::Global;
 
 /// Reads a manifest's text into the numbers that give what it describes, with zeros behind the endpoints and regions
@@ -46,7 +46,7 @@ fn numbers_of(manifest: &Manifest) -> CManifest
         ram_blocks: manifest.ram_blocks,
         endpoint_count: manifest.endpoints.len() as u32,
         endpoints: endpoint_places(manifest.endpoints.as_slice()),
-        has_security_states: worlds_number(manifest.worlds),
+        ffa: ffa_number(manifest.ffa),
         tables: manifest.tables.0,
     }
 }
@@ -132,11 +132,11 @@ fn version_number(version: Version) -> u32
     }
 }
 
-fn worlds_number(worlds: Worlds) -> u32
-    ensures { result ≡ worlds_number worlds }
+fn ffa_number(ffa: Ffa) -> u32
+    ensures { result ≡ ffa_number ffa }
 {
-    match worlds {
-        Worlds::One => 0,
-        Worlds::Two => 1,
+    match ffa {
+        Ffa::V1_1 => FFA_1_1,
+        Ffa::V1_2 => FFA_1_2,
     }
 }

@@ -8,8 +8,8 @@ ghost use Rattle.ffa_c.specs.Refusing.{IsText, IsToldOf, TellsText, TellsWords, 
 use crate::booting::number_of;
 use crate::codes::{NO_MEMORY, NOTHING, OK};
 use crate::manifest::{
-    CEndpoint, CManifest, CRegion, counted_endpoints, endpoint_of, manifest_of_numbers, region_of,
-    version_of, worlds_of,
+    CEndpoint, CManifest, CRegion, counted_endpoints, endpoint_of, ffa_of, manifest_of_numbers,
+    region_of, version_of,
 };
 use ffa_manifest::{ManifestError, ManifestRefusal, PartsPlace, TextPlace, place_of_parts};
 use ffa_model::{EndpointId, MOST_ENDPOINTS, MOST_REGIONS, PageNo};
@@ -165,7 +165,7 @@ fn place_of_numbers(given: &CManifest) -> PartsPlace
     let Ok(endpoints) = counted_endpoints(given) else {
         return untold_place(given);
     };
-    if worlds_of(given.has_security_states).is_none() {
+    if ffa_of(given.ffa).is_none() {
         return PartsPlace::nowhere();
     }
     place_of_parts(

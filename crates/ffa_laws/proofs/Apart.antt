@@ -8,7 +8,7 @@ use Rattle.std.proofs.lemmas.Bool.{and_parts, not-true}
 use Rattle.std.proofs.lemmas.Option.{none-some, same_Some}
 use Rattle.ffa_model.specs.declared.descriptor.RelinquishDesc.{RelinquishDesc}
 use Rattle.ffa_model.specs.declared.endpoint.Endpoint.{Endpoint}
-use Rattle.ffa_model.specs.declared.manifest.Worlds.{Worlds}
+use Rattle.ffa_model.specs.declared.manifest.Ffa.{Ffa}
 use Rattle.ffa_model.specs.declared.operation.Op.{Op}
 use Rattle.ffa_model.specs.declared.operation.Op.TheVariants.{Call, Load, Store, Fetch}
 use Rattle.ffa_model.specs.declared.operation.Outcome.TheVariants.{Data, Done}
@@ -132,6 +132,6 @@ module _ (s : State) (apart : AreApart s) where
 pub stays_apart : (s : State) (op : Op) → AreApart s → AreApart (step s op).state
 stays_apart s op apart = apart-step s apart op
 
-pub first_apart : (worlds : Worlds) (base tables blocks : ℕ) (es : List Endpoint) → AreApart (first worlds base tables blocks es)
+pub first_apart : (ffa : Ffa) (base tables blocks : ℕ) (es : List Endpoint) → AreApart (first ffa base tables blocks es)
 unfolding first
-first_apart worlds base tables blocks es h t is = absurd (none-some t (sym (finite.get-empty nat_cmp h) ∙ is))
+first_apart ffa base tables blocks es h t is = absurd (none-some t (sym (finite.get-empty nat_cmp h) ∙ is))

@@ -6,7 +6,7 @@ use Rattle.std.proofs.lemmas.Bool.{and_parts, false≢true, ltb-true}
 use Rattle.std.proofs.lemmas.List.{length-replicate}
 use Rattle.std.proofs.lemmas.Option.{none-some, same_Some}
 use Rattle.ffa_model.specs.declared.endpoint.Endpoint.{Endpoint}
-use Rattle.ffa_model.specs.declared.manifest.Worlds.{Worlds}
+use Rattle.ffa_model.specs.declared.manifest.Ffa.{Ffa}
 use Rattle.ffa_model.specs.First.{first, first_held, party_of}
 use Rattle.ffa_model.specs.Identifiers.{manager}
 use Rattle.ffa_model.specs.Regions.{owner_in}
@@ -38,20 +38,20 @@ few-properties (x ∷ es) (suc i) e identified is =
     ltb-true e.properties.0 16 (and_parts _ _ (all-get is_partition es i e (and_parts (is_normal_world x) (list_all is_partition es) identified).1 is)).1
 
 -- whatever bytes the pages of its regions have
-pub first-held-sound : (worlds : Worlds) (base tables blocks : ℕ) (es : List Endpoint) (held : ℕ → List ℕ) → is_accepted base tables blocks es ≡ true
+pub first-held-sound : (ffa : Ffa) (base tables blocks : ℕ) (es : List Endpoint) (held : ℕ → List ℕ) → is_accepted base tables blocks es ≡ true
     → ((i : ℕ) (e : Endpoint) → slice_get es i ≡ Some e → (length e.uuid ≡ 16) × (are_bytes e.uuid))
     → ((p : ℕ) → p < 512 * blocks → owner_in base es p ≢ manager → (length (held p) ≡ 4096) × are_bytes (held p))
-    → IsSoundState (first_held worlds base tables blocks es held)
-first-held-sound worlds base tables blocks es held good uuids whole =
+    → IsSoundState (first_held ffa base tables blocks es held)
+first-held-sound ffa base tables blocks es held good uuids whole =
     let facts = accepted base tables blocks es good in
-    accepted_sound worlds base tables blocks es held good whole (first-schedule-sound (length es) facts.some_endpoints facts.few_endpoints) (λ i party is.
+    accepted_sound ffa base tables blocks es held good whole (first-schedule-sound (length es) facts.some_endpoints facts.few_endpoints) (λ i party is.
     let (e, at, same) = map-get es i party is in
     let (size, bytes) = uuids i e at in
     let few = few-properties es i e facts.identified at in
     subst IsSoundParty same (record { size = size; bytes = bytes; properties = omega (arith, few) }))
 
-pub first-state-sound : (worlds : Worlds) (base tables blocks : ℕ) (es : List Endpoint) → is_accepted base tables blocks es ≡ true
-    → ((i : ℕ) (e : Endpoint) → slice_get es i ≡ Some e → (length e.uuid ≡ 16) × (are_bytes e.uuid)) → IsSoundState (first worlds base tables blocks es)
+pub first-state-sound : (ffa : Ffa) (base tables blocks : ℕ) (es : List Endpoint) → is_accepted base tables blocks es ≡ true
+    → ((i : ℕ) (e : Endpoint) → slice_get es i ≡ Some e → (length e.uuid ≡ 16) × (are_bytes e.uuid)) → IsSoundState (first ffa base tables blocks es)
 unfolding first
-first-state-sound worlds base tables blocks es good uuids =
-    first-held-sound worlds base tables blocks es (λ p. replicate 4096 0) good uuids (λ p inside owned. (length-replicate {A = ℕ} 4096 0, zeros-bytes 4096))
+first-state-sound ffa base tables blocks es good uuids =
+    first-held-sound ffa base tables blocks es (λ p. replicate 4096 0) good uuids (λ p inside owned. (length-replicate {A = ℕ} 4096 0, zeros-bytes 4096))

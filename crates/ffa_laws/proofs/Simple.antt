@@ -4,7 +4,7 @@ use Rattle.std.proofs.Common.{◌≡◌, ◌≢◌, ◌∙◌, ℕ, zero, suc, L
 use Rattle.std.proofs.lemmas.List.{length-replicate}
 use Rattle.byteorder.specs.Endian.{little_bytes}
 use Rattle.ffa_model.specs.declared.endpoint.Endpoint.{Endpoint}
-use Rattle.ffa_model.specs.declared.manifest.Worlds.{Worlds}
+use Rattle.ffa_model.specs.declared.manifest.Ffa.{Ffa}
 use Rattle.ffa_model.specs.declared.call.Call as calls
 use Rattle.ffa_model.specs.declared.call.Call.TheVariants.{DirectRequest, DirectResponse, MemDonate, MemLend, MemRelinquish, MemRetrieve, MemShare, MsgWait, PartitionInfoGet, Run, Yield}
 use Rattle.ffa_model.specs.declared.operation.Op.{Op}
@@ -135,10 +135,10 @@ first-runs n = record {
         let (high, within) = partition-place n e (ap (λ k. is_partition_among k e) (sym size) ∙ its) in
         first-waits n (omega (arith, within)) e its
 
-pub first_simple : (worlds : Worlds) (base tables blocks : ℕ) (es : List Endpoint) → IsSimple (schedule_of (first worlds base tables blocks es))
+pub first_simple : (ffa : Ffa) (base tables blocks : ℕ) (es : List Endpoint) → IsSimple (schedule_of (first ffa base tables blocks es))
 unfolding first
-first_simple worlds base tables blocks es = first-runs (length es)
+first_simple ffa base tables blocks es = first-runs (length es)
 
-pub first_held_simple : (worlds : Worlds) (base tables blocks : ℕ) (es : List Endpoint) (held : ℕ → List ℕ) → IsSimple (schedule_of (first_held worlds base tables blocks es held))
+pub first_held_simple : (ffa : Ffa) (base tables blocks : ℕ) (es : List Endpoint) (held : ℕ → List ℕ) → IsSimple (schedule_of (first_held ffa base tables blocks es held))
 unfolding first
-first_held_simple worlds base tables blocks es held = first-runs (length es)
+first_held_simple ffa base tables blocks es held = first-runs (length es)

@@ -3,7 +3,7 @@
 
 ghost use Rattle.std.specs.Prelude.{ℕ, ◌≡◌, ◌≢◌, ◌*◌, ◌<◌, Bool, true, List, length, Some, slice_get};
 ghost use Rattle.ffa_model.specs.declared.endpoint.Endpoint.{Endpoint};
-ghost use Rattle.ffa_model.specs.declared.manifest.Worlds.{Worlds};
+ghost use Rattle.ffa_model.specs.declared.manifest.Ffa.{Ffa};
 ghost use Rattle.ffa_model.specs.First.{first, first_held};
 ghost use Rattle.ffa_model.specs.declared.call.Call.{Call};
 ghost use Rattle.ffa_model.specs.declared.operation.Op.{Op};
@@ -83,7 +83,7 @@ pub fn only_writers()
 pub fn own_access()
     ensures access { (s : State) (op : Op) → IsSteady s → AreApart s → OwnAccess (by_runner op) s }
     ensures stays { (s : State) (op : Op) → AreApart s → AreApart (step s op).state }
-    ensures first { (worlds : Worlds) (base tables blocks : ℕ) (es : List Endpoint) → AreApart (first worlds base tables blocks es) }
+    ensures first { (ffa : Ffa) (base tables blocks : ℕ) (es : List Endpoint) → AreApart (first ffa base tables blocks es) }
 {}
 
 /// What an endpoint sees, and what it can read afterwards, depend on what it can read before, on its own operations
@@ -133,12 +133,12 @@ pub fn sound_is_steady()
 /// The state in which the machine of an accepted manifest starts, whose UUIDs have 16 bytes each, is sound: with zeros, and with
 /// whatever 4096 bytes each page of a region comes.
 pub fn first_is_sound()
-    ensures zeros { (worlds : Worlds) (base tables blocks : ℕ) (es : List Endpoint) → is_accepted base tables blocks es ≡ true
+    ensures zeros { (ffa : Ffa) (base tables blocks : ℕ) (es : List Endpoint) → is_accepted base tables blocks es ≡ true
         → ((i : ℕ) (e : Endpoint) → slice_get es i ≡ Some e → (length e.uuid ≡ 16) × are_bytes e.uuid)
-        → IsSoundState (first worlds base tables blocks es) }
-    ensures held { (worlds : Worlds) (base tables blocks : ℕ) (es : List Endpoint) (held : ℕ → List ℕ)
+        → IsSoundState (first ffa base tables blocks es) }
+    ensures held { (ffa : Ffa) (base tables blocks : ℕ) (es : List Endpoint) (held : ℕ → List ℕ)
         → is_accepted base tables blocks es ≡ true
         → ((i : ℕ) (e : Endpoint) → slice_get es i ≡ Some e → (length e.uuid ≡ 16) × are_bytes e.uuid)
         → ((p : ℕ) → p < 512 * blocks → owner_in base es p ≢ manager → (length (held p) ≡ 4096) × are_bytes (held p))
-        → IsSoundState (first_held worlds base tables blocks es held) }
+        → IsSoundState (first_held ffa base tables blocks es held) }
 {}

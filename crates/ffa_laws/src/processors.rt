@@ -3,7 +3,7 @@
 
 ghost use Rattle.std.specs.Prelude.{ℕ, ◌≡◌, ◌<◌, true, List, length, None};
 ghost use Rattle.ffa_model.specs.declared.endpoint.Endpoint.{Endpoint};
-ghost use Rattle.ffa_model.specs.declared.manifest.Worlds.{Worlds};
+ghost use Rattle.ffa_model.specs.declared.manifest.Ffa.{Ffa};
 ghost use Rattle.ffa_model.specs.declared.operation.Act.{Act};
 ghost use Rattle.ffa_model.specs.declared.operation.Op.{Op};
 ghost use Rattle.ffa_model.specs.First.{first, first_held};
@@ -72,10 +72,10 @@ pub fn rights_on()
 /// processor does operations and takes no interrupt, there is always one chain. And an operation is a step then.
 pub fn one_chain()
     ensures chain { (c : Schedule) → IsSound c → IsSimple c → IsOneChain c }
-    ensures first { (worlds : Worlds) (base tables blocks : ℕ) (es : List Endpoint)
-        → IsSimple (schedule_of (first worlds base tables blocks es)) }
-    ensures held { (worlds : Worlds) (base tables blocks : ℕ) (es : List Endpoint) (held : ℕ → List ℕ)
-        → IsSimple (schedule_of (first_held worlds base tables blocks es held)) }
+    ensures first { (ffa : Ffa) (base tables blocks : ℕ) (es : List Endpoint)
+        → IsSimple (schedule_of (first ffa base tables blocks es)) }
+    ensures held { (ffa : Ffa) (base tables blocks : ℕ) (es : List Endpoint) (held : ℕ → List ℕ)
+        → IsSimple (schedule_of (first_held ffa base tables blocks es held)) }
     ensures stays { (s : State) (op : Op) → IsSimple (schedule_of s) → IsSimple (schedule_of (step s op).state) }
     ensures effect { (s : State) (op : Op) → length s.works ≡ length s.parties → IsSimple (schedule_of s)
         → step_resuming s op ≡ effected s op None }

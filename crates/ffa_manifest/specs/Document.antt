@@ -6,8 +6,8 @@ use Rattle.toml.specs.Parse.{parse_document}
 use Rattle.ffa_model.specs.declared.limits.TheConstants.{MOST_BLOCKS, MOST_RAM}
 use Rattle.ffa_model.specs.declared.endpoint.Endpoint.{Endpoint}
 use Rattle.ffa_model.specs.declared.manifest.Manifest.{Manifest}
-use Rattle.ffa_model.specs.declared.manifest.Worlds.{Worlds}
-use Rattle.ffa_model.specs.declared.manifest.Worlds.TheVariants.{One}
+use Rattle.ffa_model.specs.declared.manifest.Ffa.{Ffa}
+use Rattle.ffa_model.specs.declared.manifest.Ffa.TheVariants.{V1_1}
 use Rattle.ffa_model.specs.Manifest.{is_from_to, is_placed}
 use Rattle.ffa_model.specs.Numbers.{PageIndex}
 use Rattle.ffa_manifest.specs.declared.error.ManifestError.{ManifestError}
@@ -23,11 +23,11 @@ pub record Parts : Type 0 where
   pub ram_blocks : ℕ
   pub tables : PageIndex
   pub endpoints : List Endpoint
-  pub worlds : Worlds
+  pub ffa : Ffa
 
 abbrev pub parts_of : Manifest → Parts
 parts_of m =
-    record { ram_base = m.ram_base.0; ram_blocks = m.ram_blocks; tables = m.tables.0; endpoints = m.endpoints.items; worlds = m.worlds }
+    record { ram_base = m.ram_base.0; ram_blocks = m.ram_blocks; tables = m.tables.0; endpoints = m.endpoints.items; ffa = m.ffa }
 
 unfoldable pub top_keys : Members → Result (Unit {0}) ManifestError
 top_keys ms = only_keys (codes "ram_base" ∷ codes "ram_blocks" ∷ codes "endpoint" ∷ []) ms
@@ -51,7 +51,7 @@ machine ms = do
   blocks ← ram_blocks_at ms
   ds ← endpoint_items ms
   endpoints ← endpoints_from (is_placed base 0 blocks (item_count ds)) ds
-  Ok (record { ram_base = base; ram_blocks = blocks; tables = 0; endpoints = endpoints; worlds = One })
+  Ok (record { ram_base = base; ram_blocks = blocks; tables = 0; endpoints = endpoints; ffa = V1_1 })
 
 -- the text as TOML, and then its tables, each whole in the order of its keys
 unfoldable pub machine_of : List ℕ → Result Parts ManifestError

@@ -4,7 +4,7 @@ use Rattle.std.specs.Prelude.{ℕ, Bool, ◌&&◌, ◌||◌, ◌==◌, nat_lt, n
 use Rattle.ffa_model.specs.declared.limits.TheConstants.{MOST_ENDPOINTS, MOST_REGIONS}
 use Rattle.ffa_model.specs.declared.endpoint.Region.{Region}
 use Rattle.ffa_model.specs.declared.endpoint.Endpoint.{Endpoint}
-use Rattle.ffa_model.specs.declared.manifest.Worlds.TheVariants.{One}
+use Rattle.ffa_model.specs.declared.manifest.Ffa.TheVariants.{V1_1}
 use Rattle.ffa_model.specs.Bits.{is_set}
 use Rattle.ffa_model.specs.Numbers.{PageIndex}
 use Rattle.ffa_model.specs.Manifest.{has_tables, is_ram_base, is_ram_size, is_from_to, is_nil, is_placed, regions_of}
@@ -14,7 +14,7 @@ use Rattle.ffa_manifest.specs.Regions.{is_free}
 use Rattle.ffa_manifest.specs.Document.{Parts}
 
 abbrev pub parts_from : ℕ → PageIndex → ℕ → List Endpoint → Parts
-parts_from base tables blocks es = record { ram_base = base; ram_blocks = blocks; tables = tables; endpoints = es; worlds = One }
+parts_from base tables blocks es = record { ram_base = base; ram_blocks = blocks; tables = tables; endpoints = es; ffa = V1_1 }
 
 -- tests in order, each with the cause for which parts that fail it are refused
 abbrev pub Tests : Type 0

@@ -16,8 +16,8 @@ use Rattle.std.proofs.lemmas.Option.{none-some, same_Some}
 use Rattle.ffa_model.specs.declared.limits.TheConstants.{MOST_ENDPOINTS, MOST_OPEN, MOST_SENDS}
 use Rattle.ffa_model.specs.declared.endpoint.Endpoint.{Endpoint}
 use Rattle.ffa_model.specs.declared.endpoint.Region.{Region}
-use Rattle.ffa_model.specs.declared.manifest.Worlds.{Worlds}
-use Rattle.ffa_model.specs.declared.manifest.Worlds.TheVariants.{One, Two}
+use Rattle.ffa_model.specs.declared.manifest.Ffa.{Ffa}
+use Rattle.ffa_model.specs.declared.manifest.Ffa.TheVariants.{V1_1, V1_2}
 use Rattle.ffa_model.specs.declared.schedule.Work.{Work}
 use Rattle.ffa_model.specs.Identifiers.{identifier, manager, place}
 use Rattle.ffa_model.specs.Manifest.{has_tables, is_accepted, is_ram_base}
@@ -77,10 +77,10 @@ none-open =
     ∙ sym (finite.len-entries (finite.empty {X = Transaction} {R = nat_cmp}))
     ∙ finite.len-empty nat_cmp Transaction
 
-module _ (worlds : Worlds) (base tables blocks : ℕ) (es : List Endpoint) (held : ℕ → List ℕ) (good : is_accepted base tables blocks es ≡ true)
+module _ (ffa : Ffa) (base tables blocks : ℕ) (es : List Endpoint) (held : ℕ → List ℕ) (good : is_accepted base tables blocks es ≡ true)
     (whole : (p : ℕ) → p < 512 * blocks → owner_in base es p ≢ manager → (length (held p) ≡ 4096) × are_bytes (held p)) where
   abbrev s : State
-  s = first_held worlds base tables blocks es held
+  s = first_held ffa base tables blocks es held
 
   facts : Accepted base tables blocks es
   facts = accepted base tables blocks es good
@@ -120,11 +120,11 @@ module _ (worlds : Worlds) (base tables blocks : ℕ) (es : List Endpoint) (held
     where
       of : (o : Option (ℕ × Region)) → find (λ (x : ℕ × Region). has_page base p x.1) (owned_regions es) ≡ o
           → option_map (λ (x : ℕ × Region). let q : Page = record { owner = x.0; own_right = x.1.rights; bytes = held p } in q) o ≡ Some page
-          → IsSoundPage (first_held worlds base tables blocks es held) page
+          → IsSoundPage (first_held ffa base tables blocks es held) page
       of None found none = absurd (none-some page none)
       of (Some x) found some =
           let (size, bytes) = whole p inside (found-owner base p es x found) in
-          subst (λ (q : Page). IsSoundPage (first_held worlds base tables blocks es held) q) (same_Some _ page some)
+          subst (λ (q : Page). IsSoundPage (first_held ffa base tables blocks es held) q) (same_Some _ page some)
           (record {
             owner = subst (λ n. is_known_among n x.0 ≡ true) (sym (length-map es party_of))
                 (found-known (λ (y : ℕ × Region). has_page base p y.1) (λ (y : ℕ × Region). is_known_among (length es) y.0) (owned_regions es) x (all-known (length es) 0 es (omega arith)) found);
@@ -135,7 +135,7 @@ module _ (worlds : Worlds) (base tables blocks : ℕ) (es : List Endpoint) (held
   -- what the normal world owns at first is non-secure, where worlds are told apart
   worlds-first : (p : ℕ) → is_secure s p ≡ true → owner_of s p ≢ 0
   unfolding first
-  worlds-first p secure first = at worlds secure
+  worlds-first p secure first = at ffa secure
     where
       normal-page : is_some (right_in base (regions_at es 0) p) ≡ true
       normal-page = elim (cases_lt p (512 * blocks)) [
@@ -153,9 +153,9 @@ module _ (worlds : Worlds) (base tables blocks : ℕ) (es : List Endpoint) (held
           of (Some x) found is =
               ap (λ i. is_some (right_in base (regions_at es (place i)) p)) (sym is) ∙ ap is_some (found-right base p es x facts.apart found)
 
-      at : (w : Worlds) → (is_some (normal_of w (regions_at es 0)) && not (is_normal base (normal_of w (regions_at es 0)) p)) ≡ true → ⊥
-      at One none = false≢true none
-      at Two some = false≢true (sym (ap not normal-page) ∙ some)
+      at : (w : Ffa) → (is_some (normal_of w (regions_at es 0)) && not (is_normal base (normal_of w (regions_at es 0)) p)) ≡ true → ⊥
+      at V1_1 none = false≢true none
+      at V1_2 some = false≢true (sym (ap not normal-page) ∙ some)
 
   none-at : (h : ℕ) (t : Transaction) → transaction_of s h ≡ Some t → ⊥
   unfolding first
@@ -171,7 +171,7 @@ module _ (worlds : Worlds) (base tables blocks : ℕ) (es : List Endpoint) (held
         pages = λ p page is. let (inside, found) = page-first p page is in sound-page p page inside found;
         worlds = worlds-first;
         transactions = λ h t is. absurd (none-at h t is);
-        one = λ p h k lt at_h at_k. absurd (false≢true (sym (ap (λ o. is_naming (first_held worlds base tables blocks es held) p o) (finite.get-empty nat_cmp h)) ∙ at_h));
+        one = λ p h k lt at_h at_k. absurd (false≢true (sym (ap (λ o. is_naming (first_held ffa base tables blocks es held) p o) (finite.get-empty nat_cmp h)) ∙ at_h));
         few = λ e known. none-counted (λ (t : Transaction). t.sender == e) _ none-open;
         sent = λ e known. subst (λ n. n ≤ MOST_SENDS) (sym (same-all {X = ℕ} (length es) (place e) 0)) (omega arith);
         buffers = λ e b known is. absurd (none-some b (sym (same-all {X = Option Buffers} (length es) (place e) None) ∙ is));

@@ -7,7 +7,7 @@ use Rattle.std.specs.FinMap as map_of
 use Rattle.std.specs.FinSet as finite_set
 use Rattle.ffa_model.specs.declared.endpoint.Region.{Region}
 use Rattle.ffa_model.specs.declared.endpoint.Endpoint.{Endpoint}
-use Rattle.ffa_model.specs.declared.manifest.Worlds.{Worlds}
+use Rattle.ffa_model.specs.declared.manifest.Ffa.{Ffa}
 use Rattle.ffa_model.specs.declared.schedule.Status.{Status}
 use Rattle.ffa_model.specs.declared.schedule.Status.TheVariants.{Running, Waiting}
 use Rattle.ffa_model.specs.Numbers.{PageIndex}
@@ -35,13 +35,13 @@ abbrev pub has_first_bitmaps : ℕ × Endpoint → Bool
 has_first_bitmaps endpoint = not (endpoint.0 == 0) && is_set 3 endpoint.1.properties.0
 
 -- all bytes are 0, nothing is open, sent, mapped, bound or pending
-unfoldable pub first : Worlds → ℕ → PageIndex → ℕ → List Endpoint → State
-first worlds base tables blocks es =
+unfoldable pub first : Ffa → ℕ → PageIndex → ℕ → List Endpoint → State
+first ffa base tables blocks es =
     record {
       ram_base = base;
       tables = tables;
       parties = map party_of es;
-      normal = normal_of worlds (regions_at es 0);
+      normal = normal_of ffa (regions_at es 0);
       pages = listed (512 * blocks) (λ p. page_with_bytes base es p (replicate 4096 0));
       transactions = map_of.empty;
       sent = replicate (length es) 0;
@@ -55,6 +55,6 @@ first worlds base tables blocks es =
     }
 
 -- the same where the pages of regions have these bytes, and not zeros
-abbrev pub first_held : Worlds → ℕ → PageIndex → ℕ → List Endpoint → (ℕ → List ℕ) → State
-first_held worlds base tables blocks es held =
-    record (first worlds base tables blocks es) { pages = listed (512 * blocks) (λ p. page_with_bytes base es p (held p)) }
+abbrev pub first_held : Ffa → ℕ → PageIndex → ℕ → List Endpoint → (ℕ → List ℕ) → State
+first_held ffa base tables blocks es held =
+    record (first ffa base tables blocks es) { pages = listed (512 * blocks) (λ p. page_with_bytes base es p (held p)) }

@@ -7,8 +7,8 @@ use Rattle.ffa_model.specs.Identifiers.{manager, identifier}
 use Rattle.std.specs.Option.{option_map, option_map_or}
 use Rattle.ffa_model.specs.declared.endpoint.Region.{Region}
 use Rattle.ffa_model.specs.declared.endpoint.Endpoint.{Endpoint}
-use Rattle.ffa_model.specs.declared.manifest.Worlds.{Worlds}
-use Rattle.ffa_model.specs.declared.manifest.Worlds.TheVariants.{One, Two}
+use Rattle.ffa_model.specs.declared.manifest.Ffa.{Ffa}
+use Rattle.ffa_model.specs.declared.manifest.Ffa.TheVariants.{V1_1, V1_2}
 use Rattle.ffa_model.specs.declared.rights.Rights.{Rights}
 
 -- whether page p of the RAM at an address is one of the region's
@@ -41,9 +41,9 @@ abbrev pub regions_of_each : List Endpoint → List (List Region)
 regions_of_each es = map (λ (e : Endpoint). e.regions.items) es
 
 -- where worlds are told apart, the regions of non-secure memory: these, which are the normal world's
-abbrev pub normal_of : Worlds → List Region → Option (List Region)
-normal_of One rs = None
-normal_of Two rs = Some rs
+abbrev pub normal_of : Ffa → List Region → Option (List Region)
+normal_of V1_1 rs = None
+normal_of V1_2 rs = Some rs
 
 -- whether a page is non-secure, where worlds are told apart
 abbrev pub is_normal : ℕ → Option (List Region) → PageIndex → Bool

@@ -36,7 +36,7 @@ pub use limits::{
     MOST_BLOCKS, MOST_BUFFER_PAGES, MOST_ENDPOINTS, MOST_OPEN, MOST_PAGES, MOST_PROCESSORS,
     MOST_RAM, MOST_RANGES, MOST_RECEIVERS, MOST_REGIONS, MOST_SENDS, SlotNumber,
 };
-pub use manifest::{Manifest, Worlds};
+pub use manifest::{Ffa, Manifest};
 pub use operation::{Act, Effect, ErrorCode, FaultKind, Op, Outcome, Size};
 pub use refusal::{Refusal, WORDS};
 pub use rights::{Data, Kind, Rights};

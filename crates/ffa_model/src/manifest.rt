@@ -1,7 +1,7 @@
 // SPDX-License-Identifier: MIT OR Apache-2.0
 //! The manifest of a machine.
 ghost use Rattle.std.specs.Prelude.{true, ◌≡◌, ℕ, ◌+◌, ◌*◌, ◌<◌, ◌≤◌, All, is_some, length, map};
-ghost use Rattle.ffa_model.specs.declared.manifest.Worlds.TheVariants.{One};
+ghost use Rattle.ffa_model.specs.declared.manifest.Ffa.TheVariants.{V1_1};
 ghost use Rattle.ffa_model.specs.First.{party_of};
 ghost use Rattle.ffa_model.specs.Manifest.{is_accepted, root_of};
 ghost use Rattle.ffa_model.specs.Regions.{has_page, right_in, regions_at, normal_of, owned_regions, owner_in};
@@ -13,15 +13,15 @@ use crate::limits::MOST_ENDPOINTS;
 use crate::rights::Rights;
 use arrayvec::ArrayVec;
 
-/// Whether a machine tells non-secure memory from secure memory (DEN0077A, 5 and 16).
+/// The version of FF-A that a machine serves, from its boot on.
 #[derive(Clone, Copy, Debug, PartialEq, Eq, Default)]
-pub enum Worlds {
-    /// All memory is alike, and no answer says whose it is.
+pub enum Ffa {
+    /// FF-A 1.1 (DEN0077A). All memory is alike, and no answer says whose it is.
     #[default]
-    One,
-    /// Memory of the normal world's regions is non-secure, and so told to who retrieves it; all other memory is secure, and
-    /// not sent to the normal world.
-    Two,
+    V1_1,
+    /// FF-A 1.2. Memory of the normal world's regions is non-secure (DEN0077A, 5 and 16), and whoever retrieves it is told so. All other
+    /// memory is secure, and is not sent to the normal world.
+    V1_2,
 }
 
 /// A machine's RAM and endpoints, which meet the conditions of an accepted manifest: the RAM's place and size, the
@@ -37,13 +37,13 @@ pub struct Manifest {
     pub tables: PageNo,
     /// The normal world, then the partitions in the order of their identifiers.
     pub endpoints: ArrayVec<Endpoint, MOST_ENDPOINTS>,
-    /// Whether the machine tells the worlds' memory apart.
-    pub worlds: Worlds,
+    /// The version of FF-A that the machine serves.
+    pub ffa: Ffa,
     pub ghost accepted: { is_accepted ram_base.0 tables.0 ram_blocks endpoints.items ≡ true },
 }
 
 impl Manifest {
-    /// The manifest of these parts, whose machine doesn't tell worlds apart.
+    /// The manifest of these parts, whose machine serves FF-A 1.1.
     pub fn of(
         ram_base: Address,
         ram_blocks: u32,
@@ -55,42 +55,42 @@ impl Manifest {
         ensures blocks { result.ram_blocks ≡ ram_blocks }
         ensures tables { result.tables ≡ tables }
         ensures endpoints { result.endpoints.items ≡ endpoints.items }
-        ensures worlds { result.worlds ≡ One }
+        ensures ffa { result.ffa ≡ V1_1 }
     {
         Manifest {
             ram_base,
             ram_blocks,
             tables,
             endpoints,
-            worlds: Worlds::One,
+            ffa: Ffa::V1_1,
         }
     }
 
-    /// The same manifest, whose machine tells worlds apart, or doesn't.
-    pub fn with_worlds(self, worlds: Worlds) -> Manifest
-        ensures { result ≡ record self { worlds = worlds } }
+    /// The same manifest, whose machine serves this version of FF-A.
+    pub fn with_ffa(self, ffa: Ffa) -> Manifest
+        ensures { result ≡ record self { ffa = ffa } }
     {
         let Manifest {
             ram_base,
             ram_blocks,
             tables,
             endpoints,
-            worlds: _,
+            ffa: _,
         } = self;
         Manifest {
             ram_base,
             ram_blocks,
             tables,
             endpoints,
-            worlds,
+            ffa,
         }
     }
 
     /// Whether its machine tells worlds apart.
     pub fn tells_worlds(&self) -> bool
-        ensures { result ≡ is_some (normal_of self.now.worlds (regions_at self.now.endpoints.items 0)) }
+        ensures { result ≡ is_some (normal_of self.now.ffa (regions_at self.now.endpoints.items 0)) }
     {
-        self.worlds == Worlds::Two
+        self.ffa == Ffa::V1_2
     }
 
     /// The address of an endpoint's level 1 table, by the endpoint's place in the manifest, from 0.
@@ -158,8 +158,6 @@ impl Manifest {
         for endpoint in self.endpoints.as_slice() {
             endpoints.push(endpoint.copy());
         }
-        Manifest::of(self.ram_base, self.ram_blocks, self.tables, endpoints).with_worlds(
-            self.worlds,
-        )
+        Manifest::of(self.ram_base, self.ram_blocks, self.tables, endpoints).with_ffa(self.ffa)
     }
 }

@@ -127,7 +127,7 @@ zero-page : (m : Manifest) (p : ℕ) → p < 512 * m.ram_blocks → page_of (zer
 zero-page m p lt = get_or-replicate (512 * m.ram_blocks) p (replicate 4096 0) [] lt
 
 -- a page of the first state
-page-there : (m : Manifest) (given : Ram) (p : ℕ) (page : Page) → page_at (first_held m.worlds m.ram_base.0 m.tables.0 m.ram_blocks m.endpoints.items (page_of given)) p ≡ Some page
+page-there : (m : Manifest) (given : Ram) (p : ℕ) (page : Page) → page_at (first_held m.ffa m.ram_base.0 m.tables.0 m.ram_blocks m.endpoints.items (page_of given)) p ≡ Some page
     → (p < 512 * m.ram_blocks) × (page_with_bytes m.ram_base.0 m.endpoints.items p (page_of given p) ≡ Some page)
 page-there m given p page is = elim (cases_lt p (512 * m.ram_blocks)) [
   | inl lt ↦ (lt, sym (get_or-listed (512 * m.ram_blocks) (λ q. page_with_bytes m.ram_base.0 m.endpoints.items q (page_of given q)) p None lt) ∙ is)
@@ -140,7 +140,7 @@ own_right m i p = right_among m.ram_base.0 (regions_at m.endpoints.items i) p
 
 module _ (given : Ram) (x : Parts) (ready : IsReadyFor x.manifest given)
     (base : x.kept.layout.base.0 ≡ x.manifest.ram_base.0) (blocks : x.kept.layout.blocks ≡ x.manifest.ram_blocks) (place : x.kept.layout.tables.0 ≡ x.manifest.tables.0) (regions : regions_in x.kept.layout ≡ regions_of_each x.manifest.endpoints.items)
-    (normal : normal_in x.kept.layout ≡ normal_of x.manifest.worlds (regions_at x.manifest.endpoints.items 0))
+    (normal : normal_in x.kept.layout ≡ normal_of x.manifest.ffa (regions_at x.manifest.endpoints.items 0))
     (built : IsBuilt x.ram (array_vec_len x.kept.layout.regions) x.kept.layout.tables.0 x.kept.layout.blocks (layout_right x.kept.layout))
     (rest : KeepsRest given x.ram (array_vec_len x.kept.layout.regions) x.kept.layout.tables.0 x.kept.layout.blocks)
     (owners : x.kept.pages ≡ first_owners x.manifest) (slots : x.kept.pool.slots ≡ replicate (MOST_OPEN * length x.manifest.endpoints.items) None)
@@ -205,9 +205,9 @@ module _ (given : Ram) (x : Parts) (ready : IsReadyFor x.manifest given)
       listed-same (length x.ram.pages) (held_page x.ram x.kept.pages) (λ p. page_with_bytes x.manifest.ram_base.0 es p (page_of given p)) page-given
       ∙ ap (λ (n : ℕ). listed n (λ p. page_with_bytes x.manifest.ram_base.0 es p (page_of given p))) size-is
 
-  pub state-first : state_of x ≡ first_held x.manifest.worlds x.manifest.ram_base.0 x.manifest.tables.0 x.manifest.ram_blocks es (page_of given)
+  pub state-first : state_of x ≡ first_held x.manifest.ffa x.manifest.ram_base.0 x.manifest.tables.0 x.manifest.ram_blocks es (page_of given)
   unfolding first
-  state-first = λ i. record (first x.manifest.worlds x.manifest.ram_base.0 x.manifest.tables.0 x.manifest.ram_blocks es) {
+  state-first = λ i. record (first x.manifest.ffa x.manifest.ram_base.0 x.manifest.tables.0 x.manifest.ram_blocks es) {
     pages = pages-first i;
     transactions = (ap map_in slots ∙ none-open (MOST_OPEN * length es)) i;
     sent = sent i;
@@ -241,7 +241,7 @@ module _ (given : Ram) (x : Parts) (ready : IsReadyFor x.manifest given)
             (subst (AreOpenTransactions x.manifest (first_owners x.manifest)) (sym slots) (open-first x.manifest (MOST_OPEN * length es)));
         sound =
             subst IsSoundState (sym state-first)
-            (first-held-sound x.manifest.worlds x.manifest.ram_base.0 x.manifest.tables.0 x.manifest.ram_blocks es (page_of given) x.manifest.accepted (uuid-at es uuids)
+            (first-held-sound x.manifest.ffa x.manifest.ram_base.0 x.manifest.tables.0 x.manifest.ram_blocks es (page_of given) x.manifest.accepted (uuid-at es uuids)
             (λ p inside. ready.whole p (omega (arith, inside, ready.size))));
       }
 
@@ -274,7 +274,7 @@ pub booted-zeros : (m : Manifest) (given : Ram) (s : State) (ram : Ram) → give
 unfolding first
 booted-zeros m given s ram zeros booted =
     record {
-      state = booted.state ∙ (λ i. record (first m.worlds m.ram_base.0 m.tables.0 m.ram_blocks m.endpoints.items) { pages = same i });
+      state = booted.state ∙ (λ i. record (first m.ffa m.ram_base.0 m.tables.0 m.ram_blocks m.endpoints.items) { pages = same i });
       agrees = booted.agrees;
       words = booted.words;
       cleared = λ p aside inside. of p aside inside (page_at s p) refl;
@@ -302,7 +302,7 @@ booted-kept m given cleared s ram kept booted =
     record {
       state =
           booted.state
-          ∙ (λ i. record (first m.worlds m.ram_base.0 m.tables.0 m.ram_blocks m.endpoints.items) {
+          ∙ (λ i. record (first m.ffa m.ram_base.0 m.tables.0 m.ram_blocks m.endpoints.items) {
             pages =
                 listed-same (512 * m.ram_blocks) (λ p. page_with_bytes m.ram_base.0 m.endpoints.items p (page_of cleared p)) (λ p. page_with_bytes m.ram_base.0 m.endpoints.items p (page_of given p))
                 (λ p lt. given-same m.ram_base.0 p m.endpoints.items (page_of cleared p) (page_of given p) (kept p)) i;

@@ -6,7 +6,7 @@ use Rattle.std.proofs.lemmas.Bool.{eq-eqb, ne_eqb}
 use Rattle.std.proofs.lemmas.List.{get_or-replicate, length-map, map-set}
 use Rattle.ffa_model.specs.declared.endpoint.Endpoint.{Endpoint}
 use Rattle.ffa_model.specs.declared.manifest.Manifest.{Manifest}
-use Rattle.ffa_model.specs.declared.manifest.Worlds.{Worlds}
+use Rattle.ffa_model.specs.declared.manifest.Ffa.{Ffa}
 use Rattle.ffa_model.specs.First.{first, first_held, party_of}
 use Rattle.ffa_model.specs.Ram.{Ram, page_of}
 use Rattle.ffa_model.proofs.FirstChain.{first-here}
@@ -50,16 +50,16 @@ number-at [] p = refl
 number-at (e ∷ items) zero = refl
 number-at (e ∷ items) (suc p) = number-at items p
 
-pub booted-here-held : (worlds : Worlds) (base tables blocks : ℕ) (es : List Endpoint) (held : ℕ → List ℕ) → 1 ≤ length es → IsHere (first_held worlds base tables blocks es held)
+pub booted-here-held : (ffa : Ffa) (base tables blocks : ℕ) (es : List Endpoint) (held : ℕ → List ℕ) → 1 ≤ length es → IsHere (first_held ffa base tables blocks es held)
 unfolding first
-booted-here-held worlds base tables blocks es held some e its = first-here (length es) some e (record { partition = its.partition; status = its.status })
+booted-here-held ffa base tables blocks es held some e its = first-here (length es) some e (record { partition = its.partition; status = its.status })
 
 pub boot-here-held : (m : Manifest) (given : Ram) (s : State) (ram : Ram) → IsBootedHeld m given s ram → IsHere s
 unfolding first
 boot-here-held m given s ram booted =
     let least : 1 ≤ length s.parties = booted.sound.sized.some in
     let size : length s.parties ≡ length m.endpoints.items = ap (λ (t : State). length t.parties) booted.state ∙ length-map m.endpoints.items party_of in
-    subst IsHere (sym booted.state) (booted-here-held m.worlds m.ram_base.0 m.tables.0 m.ram_blocks m.endpoints.items (page_of given) (omega (arith, least, size)))
+    subst IsHere (sym booted.state) (booted-here-held m.ffa m.ram_base.0 m.tables.0 m.ram_blocks m.endpoints.items (page_of given) (omega (arith, least, size)))
 
 -- at first the normal world runs on all but the first
 pub first-placed : (s : State) → IsHere s → ArePlaced first_processors s

@@ -65,7 +65,7 @@ module _ (x : Parts) where
   unfolding first
   parties-listed = refl
 
-  pub normal-listed : normal_of x.manifest.worlds (regions_at x.manifest.endpoints.items 0) ≡ s.normal
+  pub normal-listed : normal_of x.manifest.ffa (regions_at x.manifest.endpoints.items 0) ≡ s.normal
   unfolding first
   normal-listed = refl
 

@@ -22,7 +22,7 @@ AreDescribed tables blocks s ram =
 
 -- the first state of a manifest, which RAM's tables give and which is sound
 pub record IsBooted (m : Manifest) (s : State) (ram : Ram) : Type 0 where
-  pub state : s ≡ first m.worlds m.ram_base.0 m.tables.0 m.ram_blocks m.endpoints.items
+  pub state : s ≡ first m.ffa m.ram_base.0 m.tables.0 m.ram_blocks m.endpoints.items
   pub agrees : Agrees ram s
   pub words : AreDescribed m.tables.0 m.ram_blocks s ram
   -- pages but the tables' are zeros
@@ -31,7 +31,7 @@ pub record IsBooted (m : Manifest) (s : State) (ram : Ram) : Type 0 where
 
 -- the same where the pages of regions keep the bytes of the RAM that was given
 pub record IsBootedHeld (m : Manifest) (given : Ram) (s : State) (ram : Ram) : Type 0 where
-  pub state : s ≡ first_held m.worlds m.ram_base.0 m.tables.0 m.ram_blocks m.endpoints.items (page_of given)
+  pub state : s ≡ first_held m.ffa m.ram_base.0 m.tables.0 m.ram_blocks m.endpoints.items (page_of given)
   pub agrees : Agrees ram s
   pub words : AreDescribed m.tables.0 m.ram_blocks s ram
   -- pages but the tables' that no endpoint owns are zeros

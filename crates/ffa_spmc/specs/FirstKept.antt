@@ -21,7 +21,7 @@ pub record AreFirst (m own : Manifest) (layout : Layout) (bits : Notifications) 
   pub ram_blocks : layout.blocks ≡ m.ram_blocks
   pub tables : layout.tables.0 ≡ m.tables.0
   pub regions : regions_in layout ≡ regions_of_each m.endpoints.items
-  pub normal : normal_in layout ≡ normal_of m.worlds (regions_at m.endpoints.items 0)
+  pub normal : normal_in layout ≡ normal_of m.ffa (regions_at m.endpoints.items 0)
   pub bitmaps : bits.bitmaps ≡ map has_first_bitmaps (enumerate_from 0 m.endpoints.items)
   pub bound : bits.bound ≡ finite_set.empty
   pub pending : bits.pending ≡ finite_set.empty

@@ -36,7 +36,7 @@ pub record Parts : Type 0 where
 -- the state that they mean
 abbrev pub state_of : Parts → State
 state_of x =
-    record (first x.manifest.worlds x.manifest.ram_base.0 x.manifest.tables.0 x.manifest.ram_blocks x.manifest.endpoints.items) {
+    record (first x.manifest.ffa x.manifest.ram_base.0 x.manifest.tables.0 x.manifest.ram_blocks x.manifest.endpoints.items) {
       ram_base = x.manifest.ram_base.0;
       tables = x.manifest.tables.0;
       transactions = map_in x.kept.pool.slots;
@@ -67,7 +67,7 @@ pub record IsLayoutOf (m : Manifest) (layout : Layout) : Type 0 where
   pub blocks : layout.blocks ≡ m.ram_blocks
   pub tables : layout.tables.0 ≡ m.tables.0
   pub endpoints : array_vec_len layout.regions ≡ length m.endpoints.items
-  pub normal : normal_in layout ≡ normal_of m.worlds (regions_at m.endpoints.items 0)
+  pub normal : normal_in layout ≡ normal_of m.ffa (regions_at m.endpoints.items 0)
 
 -- each page of RAM has its owner, which is nobody for the pages of tables
 pub record AreOwners (m : Manifest) (pages : List (Option Entry)) : Type 0 where

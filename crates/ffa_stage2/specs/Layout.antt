@@ -24,7 +24,7 @@ layout_right layout e p = right_among layout.base.0 (slice_index_or (regions_in 
 
 -- where worlds are told apart, the regions of non-secure memory: the normal world's
 abbrev pub normal_in : Layout → Option (List Region)
-normal_in layout = normal_of layout.worlds (slice_index_or (regions_in layout) 0 [])
+normal_in layout = normal_of layout.ffa (slice_index_or (regions_in layout) 0 [])
 
 -- the tables of the layout's endpoints stand in the RAM, and endpoint e has `access e p` to page p
 abbrev pub IsBuiltFor : Layout → Ram → (ℕ → ℕ → Option Rights) → Type 0

@@ -7,7 +7,7 @@ ghost use Rattle.ffa_model.specs.Manifest.{table_pages};
 
 use arrayvec::ArrayVec;
 use ffa_model::{
-    Address, Endpoint, MOST_ENDPOINTS, MOST_REGIONS, Manifest, PageNo, Region, Rights, Worlds,
+    Address, Endpoint, Ffa, MOST_ENDPOINTS, MOST_REGIONS, Manifest, PageNo, Region, Rights,
     regions_until, right_in,
 };
 use ffa_physmem::PAGE_SIZE;
@@ -55,8 +55,8 @@ pub struct Layout {
     pub tables: PageNo,
     /// The regions by the endpoint's place in the manifest.
     pub regions: ArrayVec<Regions, MOST_ENDPOINTS>,
-    /// Whether worlds are told apart.
-    pub worlds: Worlds,
+    /// The version of FF-A that the machine serves.
+    pub ffa: Ffa,
     pub ghost place: { base.0 % 0x200000 ≡ 0 },
     pub ghost one_table: { base.0 % 2 ^ 30 + 0x200000 * blocks ≤ 2 ^ 30 },
     pub ghost few: { blocks ≤ MOST_BLOCKS },
@@ -75,7 +75,7 @@ impl Layout {
         ensures blocks { result.blocks ≡ manifest.now.ram_blocks }
         ensures tables { result.tables ≡ manifest.now.tables }
         ensures regions { regions_in result ≡ regions_of_each manifest.now.endpoints.items }
-        ensures normal { normal_in result ≡ normal_of manifest.now.worlds (regions_at manifest.now.endpoints.items 0) }
+        ensures normal { normal_in result ≡ normal_of manifest.now.ffa (regions_at manifest.now.endpoints.items 0) }
     {
         let mut regions = ArrayVec::new();
         for endpoint in manifest.endpoints.as_slice() {
@@ -86,7 +86,7 @@ impl Layout {
             blocks: manifest.ram_blocks,
             tables: manifest.tables,
             regions,
-            worlds: manifest.worlds,
+            ffa: manifest.ffa,
         }
     }
 
@@ -103,7 +103,7 @@ impl Layout {
             blocks: self.blocks,
             tables: self.tables,
             regions,
-            worlds: self.worlds,
+            ffa: self.ffa,
         }
     }
 
@@ -111,14 +111,14 @@ impl Layout {
     pub fn tells_worlds(&self) -> bool
         ensures { result ≡ is_some (normal_in self.now) }
     {
-        self.worlds == Worlds::Two
+        self.ffa == Ffa::V1_2
     }
 
     /// Whether a page is non-secure, where worlds are told apart.
     pub fn is_normal(&self, page: PageNo) -> bool
         ensures { result ≡ is_normal self.now.base.0 (normal_in self.now) page.0 }
     {
-        if self.worlds == Worlds::One || self.regions.is_empty() {
+        if self.ffa == Ffa::V1_1 || self.regions.is_empty() {
             return false;
         }
         right_in(self.regions[0].list.as_slice(), self.base, page).is_some()

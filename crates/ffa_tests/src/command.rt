@@ -48,7 +48,7 @@ ffaplay compare --tlb a --frames b c => frames and a TLB
 ffaplay record row.toml first.trace --words => one piece
 ffaplay record --tlb row.toml first.trace => a TLB
 ffaplay record row.toml - --verbose --frames => frames
-ffaplay record row.toml --worlds first.trace --tlb => a TLB
+ffaplay record row.toml --ffa 1.2 first.trace --tlb => a TLB
 ffaplay picture a b --processors 4 --page => one piece
 ";
 

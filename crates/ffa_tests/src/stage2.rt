@@ -2,7 +2,7 @@
 //! Pages of words that rise, a table page that is mapped, and which pages are non-secure.
 use crate::checks::{holds, same, same_at};
 use byteorder::{ByteOrder, LittleEndian};
-use ffa_model::{Data, PageNo, Rights, Worlds};
+use ffa_model::{Data, Ffa, PageNo, Rights};
 use ffa_physmem::{FlatRam, NoMemory};
 use ffa_stage2::{Layout, build, is_uniform, set_page};
 use fixtures::{row_machine, word};
@@ -61,7 +61,7 @@ fn set_page_writes_descriptor(rt: HostRuntime) -> Result<(), NoMemory> {
 #[test]
 fn non_secure_pages(rt: HostRuntime) {
     let one = Layout::of(&row_machine());
-    let two = Layout::of(&row_machine().with_worlds(Worlds::Two));
+    let two = Layout::of(&row_machine().with_ffa(Ffa::V1_2));
     holds(&rt, !one.tells_worlds() && two.tells_worlds());
     for (page, normal) in [
         (0, false),

@@ -6,6 +6,8 @@ use Rattle.std.specs.List.{count_by, list_all, starts_with}
 use Rattle.std.specs.Str.Parse.{digits_value}
 use Rattle.std.specs.Option.{option_map_or}
 use Rattle.ffa_model.specs.declared.limits.TheConstants.{MOST_PROCESSORS}
+use Rattle.ffa_model.specs.declared.manifest.Ffa.{Ffa}
+use Rattle.ffa_model.specs.declared.manifest.Ffa.TheVariants.{V1_1, V1_2}
 use Rattle.clap.specs.Words.{App, HasKind, Row, Rule, Text, all_of, fault_of, first_of, new_app, new_rule, subcommand_of, with_rule, with_subcommand}
 use Rattle.clap.specs.declared.builder.action.ArgAction.TheVariants.{Append, Set, SetTrue}
 use Rattle.clap.specs.declared.error.Error.{Error}
@@ -56,13 +58,13 @@ with_flag id app = with_rule app (flag_rule id)
 abbrev pub with_optional : Text → App → App
 with_optional id app = with_rule app (value_rule id)
 
--- whether the machine tells worlds apart
-abbrev pub with_worlds : App → App
-with_worlds app = with_flag (codes "worlds") app
+-- which version of FF-A the machine serves
+abbrev pub with_ffa : App → App
+with_ffa app = with_optional (codes "ffa") app
 
--- how many processors run the machine, whether it tells worlds apart, and whether the trace is in words
+-- how many processors run the machine, which version of FF-A it serves, and whether the trace is in words
 abbrev pub with_setting : App → App
-with_setting app = with_flag (codes "words") (with_worlds (with_optional (codes "processors") app))
+with_setting app = with_flag (codes "words") (with_ffa (with_optional (codes "processors") app))
 
 -- how the machine is built: with RAM in frames, and with a cache of translations; and its setting
 abbrev pub with_machine_flags : App → App
@@ -132,7 +134,7 @@ with_size app = with_number (codes "lines") (codes "1000") (with_number (codes "
 
 unfoldable pub generate_app : App
 generate_app =
-    with_verbose (with_worlds (with_flag (codes "count") (with_size (with_manifest (new_app (codes "generate"))))))
+    with_verbose (with_ffa (with_flag (codes "count") (with_size (with_manifest (new_app (codes "generate"))))))
 
 -- which lines have a row, and what is drawn of them
 abbrev pub with_rows : App → App
@@ -233,8 +235,8 @@ pub data Ask : Type 0 where
   check : Text → Bool → Ask
   layout : Text → (regions verbose : Bool) → Ask
   descriptor : (manifest : Option Text) → Described → Ask
-  generate : Text → (seed lines : ℕ) → (count worlds verbose : Bool) → Ask
-  test : (folders : List Text) → (tap count allow_unguarded : Bool) → (processors : Option ℕ) → (worlds words : Bool) → Ask
+  generate : Text → (seed lines : ℕ) → (count : Bool) → (ffa : Ffa) → (verbose : Bool) → Ask
+  test : (folders : List Text) → (tap count allow_unguarded : Bool) → (processors : Option ℕ) → (ffa : Ffa) → (words : Bool) → Ask
   lower : (trace : Text) → (verbose : Bool) → Ask
 
 abbrev pub ask_of : Request → Ask
@@ -242,8 +244,8 @@ ask_of (Play o) = play (path_of o.source) o.trace.now o.machine (aim_of o.purpos
 ask_of (Check manifest verbose) = check manifest.now verbose
 ask_of (Layout manifest regions verbose) = layout manifest.now regions verbose
 ask_of (Descriptor manifest words) = descriptor (option_map (λ s. s.now) manifest) (words_of words)
-ask_of (Generate o) = generate o.manifest.now o.seed o.lines o.count o.worlds o.verbose
-ask_of (Test o) = test (map (λ f. f.now) o.folders.items) o.tap o.count o.allow_unguarded o.processors o.worlds o.words
+ask_of (Generate o) = generate o.manifest.now o.seed o.lines o.count o.ffa o.verbose
+ask_of (Test o) = test (map (λ f. f.now) o.folders.items) o.tap o.count o.allow_unguarded o.processors o.ffa o.words
 ask_of (Lower trace verbose) = lower trace.now verbose
 
 -- the path of the manifest that is asked for, that of the trace that is played, and that of the expected text
@@ -252,8 +254,8 @@ manifest_of (play manifest trace machine aim words verbose) = manifest
 manifest_of (check manifest verbose) = Some manifest
 manifest_of (layout manifest regions verbose) = Some manifest
 manifest_of (descriptor manifest words) = manifest
-manifest_of (generate manifest seed lines count worlds verbose) = Some manifest
-manifest_of (test folders tap count allow_unguarded processors worlds words) = None
+manifest_of (generate manifest seed lines count ffa verbose) = Some manifest
+manifest_of (test folders tap count allow_unguarded processors ffa words) = None
 manifest_of (lower trace verbose) = None
 
 abbrev pub trace_of : Ask → Option Text
@@ -270,8 +272,8 @@ verbose_of (play manifest trace machine aim words verbose) = verbose
 verbose_of (check manifest verbose) = verbose
 verbose_of (layout manifest regions verbose) = verbose
 verbose_of (descriptor manifest words) = false
-verbose_of (generate manifest seed lines count worlds verbose) = verbose
-verbose_of (test folders tap count allow_unguarded processors worlds words) = false
+verbose_of (generate manifest seed lines count ffa verbose) = verbose
+verbose_of (test folders tap count allow_unguarded processors ffa words) = false
 verbose_of (lower trace verbose) = verbose
 
 -- the same, of which more is to be said, where it can be
@@ -280,8 +282,8 @@ said_more (play manifest trace machine aim words verbose) = play manifest trace 
 said_more (check manifest verbose) = check manifest true
 said_more (layout manifest regions verbose) = layout manifest regions true
 said_more (descriptor manifest words) = descriptor manifest words
-said_more (generate manifest seed lines count worlds verbose) = generate manifest seed lines count worlds true
-said_more (test folders tap count allow_unguarded processors worlds words) = test folders tap count allow_unguarded processors worlds words
+said_more (generate manifest seed lines count ffa verbose) = generate manifest seed lines count ffa true
+said_more (test folders tap count allow_unguarded processors ffa words) = test folders tap count allow_unguarded processors ffa words
 said_more (lower trace verbose) = lower trace true
 
 -- whether a path is given and is `-`, which stands for standard input
@@ -340,13 +342,22 @@ count_of text = option_and_then (λ n. if nat_lt 0 n && nat_le n MOST_PROCESSORS
 unfoldable pub processors_in : List Row → Option (Option ℕ)
 processors_in rows = option_map_or (λ text. option_map Some (count_of text)) (first_of (codes "processors") rows) (Some None)
 
+-- the version of FF-A that a word names
+unfoldable pub ffa_of : Text → Option Ffa
+ffa_of text =
+    if bytes_eq text (codes "1.1") then Some V1_1 else if bytes_eq text (codes "1.2") then Some V1_2 else None
+
+-- the version that was asked for, or 1.1
+unfoldable pub ffa_in : List Row → Option Ffa
+ffa_in rows = option_map_or ffa_of (first_of (codes "ffa") rows) (Some V1_1)
+
 -- what the flags of a command say
-unfoldable pub machine_in : List Row → Option ℕ → MachineOptions
-machine_in rows processors = record {
+unfoldable pub machine_in : List Row → Option ℕ → Ffa → MachineOptions
+machine_in rows processors ffa = record {
   frames = is_given (codes "frames") rows;
   tlb = is_given (codes "tlb") rows;
   processors = processors;
-  worlds = is_given (codes "worlds") rows;
+  ffa = ffa;
 }
 
 unfoldable pub text_in : List Row → TextOptions
@@ -394,7 +405,8 @@ unfoldable pub play_in : List Row → (manifest : Option Text) → Aim → Optio
 play_in rows manifest aim = do
   trace ← first_of (codes "trace") rows
   processors ← processors_in rows
-  Some (play manifest trace (machine_in rows processors) aim (is_given (codes "words") rows) (is_given (codes "verbose") rows))
+  ffa ← ffa_in rows
+  Some (play manifest trace (machine_in rows processors ffa) aim (is_given (codes "words") rows) (is_given (codes "verbose") rows))
 
 unfoldable pub play_file_in : List Row → Aim → Option Ask
 play_file_in rows aim = do
@@ -435,13 +447,15 @@ generate_in rows = do
   manifest ← first_of (codes "manifest") rows
   seed ← number_in (codes "seed") rows
   lines ← number_in (codes "lines") rows
-  Some (generate manifest seed lines (is_given (codes "count") rows) (is_given (codes "worlds") rows) (is_given (codes "verbose") rows))
+  ffa ← ffa_in rows
+  Some (generate manifest seed lines (is_given (codes "count") rows) ffa (is_given (codes "verbose") rows))
 
 unfoldable pub test_in : List Row → Option Ask
 test_in rows = do
   folders ← all_of (codes "folder") rows
   processors ← processors_in rows
-  Some (test folders (is_given (codes "tap") rows) (is_given (codes "count") rows) (is_given (codes "allow-unguarded") rows) processors (is_given (codes "worlds") rows) (is_given (codes "words") rows))
+  ffa ← ffa_in rows
+  Some (test folders (is_given (codes "tap") rows) (is_given (codes "count") rows) (is_given (codes "allow-unguarded") rows) processors ffa (is_given (codes "words") rows))
 
 unfoldable pub lower_in : List Row → Option Ask
 lower_in rows = do

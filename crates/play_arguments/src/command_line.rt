@@ -3,10 +3,10 @@
 ghost use Rattle.std.specs.Prelude.{◌≡◌, IfOk, map, option_map, codes, drop, nat_eq, true};
 ghost use Rattle.std.specs.List.{starts_with};
 ghost use Rattle.clap.specs.Words.{all_of, found_of, first_of, rows_of, subcommand_rows_of};
-ghost use Rattle.play_arguments.specs.Commands.{aim_of, ask_of, path_of, words_of, manifest_of, trace_of, expected_of, verbose_of, answers_at_once, is_input, reads_once, asked_in, is_given, number_of, numeral_of, plain_number_of, has_zero, machine_in, text_in, words_in, ask_beside, ask_in, ask_met, number_in, print_in, compare_in, draw_in, play_in, play_file_in, count_of, processors_in, check_in, layout_in, descriptor_in, generate_in, test_in, lower_in, said_more, excludes_none};
+ghost use Rattle.play_arguments.specs.Commands.{aim_of, ask_of, path_of, words_of, manifest_of, trace_of, expected_of, verbose_of, answers_at_once, is_input, reads_once, asked_in, is_given, number_of, numeral_of, plain_number_of, has_zero, machine_in, text_in, words_in, ask_beside, ask_in, ask_met, number_in, print_in, compare_in, draw_in, play_in, play_file_in, count_of, processors_in, ffa_of, ffa_in, check_in, layout_in, descriptor_in, generate_in, test_in, lower_in, said_more, excludes_none};
 
 use clap::ArgMatches;
-use ffa_model::MOST_PROCESSORS;
+use ffa_model::{Ffa, MOST_PROCESSORS};
 use std::alloc::{AllocError, Global};
 
 // The options that need a number, with the message for another value.
@@ -41,8 +41,8 @@ pub struct MachineOptions {
     pub tlb: bool,
     /// The number of processors, from 1 to 8. If it is `None`, there is one processor, and a trace cannot name it.
     pub processors: Option<usize>,
-    /// Whether the normal world's regions are non-secure memory, and all other memory is secure.
-    pub worlds: bool,
+    /// The version of FF-A that the machine serves.
+    pub ffa: Ffa,
 }
 
 /// The options for the text that a play prints.
@@ -165,8 +165,8 @@ pub struct GenerateOptions<'a> {
     pub lines: u64,
     /// Whether the program prints counts of its calls and accesses instead of the trace.
     pub count: bool,
-    /// Whether memory has two worlds, as in `MachineOptions`.
-    pub worlds: bool,
+    /// The version of FF-A, as in `MachineOptions`.
+    pub ffa: Ffa,
     /// Whether standard error has details of errors.
     pub verbose: bool,
 }
@@ -184,8 +184,8 @@ pub struct TestOptions<'a> {
     pub allow_unguarded: bool,
     /// The number of processors of each machine, as in `MachineOptions`.
     pub processors: Option<usize>,
-    /// Whether memory of each machine has two worlds, as in `MachineOptions`.
-    pub worlds: bool,
+    /// The version of FF-A that each machine serves, as in `MachineOptions`.
+    pub ffa: Ffa,
     /// Whether the traces have named calls, as in `PlayOptions`.
     pub words: bool,
 }
@@ -471,8 +471,8 @@ fn read_hexadecimal(text: &str) -> Option<u64>
     }
 }
 
-/// Returns the message for the first option that needs a number and has another value.
-pub(crate) fn unread_number(matches: &ArgMatches<'_>) -> Option<&'static str> {
+/// Returns the message for the first option with a bad value.
+pub(crate) fn unread_value(matches: &ArgMatches<'_>) -> Option<&'static str> {
     let (_, inner) = matches.subcommand()?;
     for (id, wanted) in NUMBERS {
         if let Some(text) = text_of(inner, id)
@@ -481,11 +481,12 @@ pub(crate) fn unread_number(matches: &ArgMatches<'_>) -> Option<&'static str> {
             return Some(wanted);
         }
     }
-    match processors_in(inner) {
+    if processors_in(inner).is_none() {
+        return Some("'--processors' must be a number from 1 to 8, without a sign or leading zeros");
+    }
+    match ffa_in(inner) {
         Some(_) => None,
-        None => Some(
-            "'--processors' must be a number from 1 to 8, without a sign or leading zeros",
-        ),
+        None => Some("'--ffa' must be 1.1 or 1.2"),
     }
 }
 
@@ -518,15 +519,38 @@ fn processors_in(matches: &ArgMatches<'_>) -> Option<Option<usize>>
     }
 }
 
+// Reads a version of FF-A that a machine can serve.
+#[tactic(auto, unfolding(crate::specs::Commands::ffa_of))]
+fn read_ffa(text: &str) -> Option<Ffa>
+    ensures { result ≡ ffa_of text.now }
+{
+    match text {
+        "1.1" => Some(Ffa::V1_1),
+        "1.2" => Some(Ffa::V1_2),
+        _ => None,
+    }
+}
+
+// Returns the version of FF-A that the words give, or 1.1. `None` means that their text is not such a version.
+#[tactic(auto, unfolding(crate::specs::Commands::ffa_in))]
+fn ffa_in(matches: &ArgMatches<'_>) -> Option<Ffa>
+    ensures { result ≡ ffa_in (rows_of (found_of matches.now)) }
+{
+    match text_of(matches, "ffa") {
+        Some(text) => read_ffa(text),
+        None => Some(Ffa::V1_1),
+    }
+}
+
 #[tactic(auto, unfolding(crate::specs::Commands::machine_in))]
-fn machine_in(matches: &ArgMatches<'_>, processors: Option<usize>) -> MachineOptions
-    ensures { result ≡ machine_in (rows_of (found_of matches.now)) processors }
+fn machine_in(matches: &ArgMatches<'_>, processors: Option<usize>, ffa: Ffa) -> MachineOptions
+    ensures { result ≡ machine_in (rows_of (found_of matches.now)) processors ffa }
 {
     MachineOptions {
         frames: is_given(matches, "frames"),
         tlb: is_given(matches, "tlb"),
         processors,
-        worlds: is_given(matches, "worlds"),
+        ffa,
     }
 }
 
@@ -589,10 +613,11 @@ fn play_in<'a>(
 {
     let trace = text_of(matches, "trace")?;
     let processors = processors_in(matches)?;
+    let ffa = ffa_in(matches)?;
     Some(Request::Play(PlayOptions {
         source,
         trace,
-        machine: machine_in(matches, processors),
+        machine: machine_in(matches, processors, ffa),
         purpose,
         words: is_given(matches, "words"),
         verbose: is_given(matches, "verbose"),
@@ -666,7 +691,7 @@ fn generate_in<'a>(matches: &ArgMatches<'a>) -> Option<Request<'a>>
         seed: number_in(matches, "seed")?,
         lines: number_in(matches, "lines")?,
         count: is_given(matches, "count"),
-        worlds: is_given(matches, "worlds"),
+        ffa: ffa_in(matches)?,
         verbose: is_given(matches, "verbose"),
     }))
 }
@@ -695,14 +720,18 @@ fn folders_in<'a>(
 fn test_in<'a>(alloc: Global, matches: &ArgMatches<'a>) -> Result<Option<Request<'a>>, AllocError>
     ensures { IfOk result (λ r. option_map ask_of r ≡ test_in (rows_of (found_of matches.now))) }
 {
-    match (folders_in(alloc, matches)?, processors_in(matches)) {
-        (Some(folders), Some(processors)) => Ok(Some(Request::Test(TestOptions {
+    match (
+        folders_in(alloc, matches)?,
+        processors_in(matches),
+        ffa_in(matches),
+    ) {
+        (Some(folders), Some(processors), Some(ffa)) => Ok(Some(Request::Test(TestOptions {
             folders,
             tap: is_given(matches, "tap"),
             count: is_given(matches, "count"),
             allow_unguarded: is_given(matches, "allow-unguarded"),
             processors,
-            worlds: is_given(matches, "worlds"),
+            ffa,
             words: is_given(matches, "words"),
         }))),
         _ => Ok(None),

@@ -79,7 +79,7 @@ fn refusal(
             command.error(ErrorKind::ArgumentConflict, request.excluded())
         }
         Some(_) => command.error(ErrorKind::ArgumentConflict, twice),
-        None => match command_line::unread_number(matches) {
+        None => match command_line::unread_value(matches) {
             Some(wanted) => command.error(ErrorKind::ValueValidation, wanted),
             None => command.error(ErrorKind::MissingSubcommand, "no command was given"),
         },

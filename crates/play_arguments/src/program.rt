@@ -74,10 +74,7 @@ const PROCESSORS: Word = Word::Value(
     "Simulate 1 to 8 processors; allow `on N` and `interrupt`",
 );
 
-const WORLDS: Word = Word::Flag(
-    "worlds",
-    "Make the normal world's regions non-secure, all other memory secure",
-);
+const FFA: Word = Word::Value("ffa", "Serve FF-A 1.1, the default, or 1.2");
 
 const WORDS: Word = Word::Flag(
     "words",
@@ -126,7 +123,7 @@ const RUN: Entry = Entry {
         FRAMES,
         TLB,
         PROCESSORS,
-        WORLDS,
+        FFA,
         WORDS,
         LINE_BUFFERED,
         NUMBER,
@@ -148,7 +145,7 @@ const DEMO: Entry = Entry {
         FRAMES,
         TLB,
         PROCESSORS,
-        WORLDS,
+        FFA,
         WORDS,
         LINE_BUFFERED,
         NUMBER,
@@ -166,7 +163,7 @@ const RECORD: Entry = Entry {
     name: "record",
     about: "Play a trace; print it with its output as guards",
     words: &[
-        MANIFEST, TRACE, FRAMES, TLB, PROCESSORS, WORLDS, WORDS, VERBOSE,
+        MANIFEST, TRACE, FRAMES, TLB, PROCESSORS, FFA, WORDS, VERBOSE,
     ],
 };
 
@@ -174,7 +171,7 @@ const COMPARE: Entry = Entry {
     name: "compare",
     about: "Compare the output of a trace with the expected output",
     words: &[
-        MANIFEST, TRACE, EXPECTED, FRAMES, TLB, PROCESSORS, WORLDS, WORDS, NUMBER, NAMES, EXPLAIN,
+        MANIFEST, TRACE, EXPECTED, FRAMES, TLB, PROCESSORS, FFA, WORDS, NUMBER, NAMES, EXPLAIN,
         SHORT, VERBOSE,
     ],
 };
@@ -259,7 +256,7 @@ const DESCRIPTOR: Entry = Entry {
 const GENERATE: Entry = Entry {
     name: "generate",
     about: "Generate a random trace for the machine of a manifest",
-    words: &[MANIFEST, SEED, LINES, COUNT, WORLDS, VERBOSE],
+    words: &[MANIFEST, SEED, LINES, COUNT, FFA, VERBOSE],
 };
 
 const FOLDERS: Word = Word::Paths(
@@ -285,7 +282,7 @@ const TEST: Entry = Entry {
         REACHED,
         ALLOW_UNGUARDED,
         PROCESSORS,
-        WORLDS,
+        FFA,
         WORDS,
     ],
 };
@@ -310,7 +307,7 @@ const PICTURE: Entry = Entry {
     name: "picture",
     about: "Draw each endpoint's access along a trace, as SVG",
     words: &[
-        MANIFEST, TRACE, EVERY, WIDTH, REFUSED, PAGE, PROCESSORS, WORLDS, WORDS, VERBOSE,
+        MANIFEST, TRACE, EVERY, WIDTH, REFUSED, PAGE, PROCESSORS, FFA, WORDS, VERBOSE,
     ],
 };
 

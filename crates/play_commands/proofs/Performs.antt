@@ -20,7 +20,7 @@ use Rattle.play_tasks.specs.Plays.{KnownTask, OverfullBy, PlayFails, Plays, Stre
 use Rattle.play_tasks.specs.Starts.{begun_by}
 use Rattle.play_tasks.specs.Purposes.{IsTaskFor}
 use Rattle.play_tasks.specs.declared.task.Task.TheVariants.{Drawn}
-use Rattle.play_commands.specs.Performed.{Does, FailsFor, FailsToName, HasParts, IsDone, IsQuiet, IsRead, Played, Ran, SomeBadLine, SomeUnmetGuard, first_of, needs_manifest, needs_trace, with_worlds}
+use Rattle.play_commands.specs.Performed.{Does, FailsFor, FailsToName, HasParts, IsDone, IsQuiet, IsRead, Played, Ran, SomeBadLine, SomeUnmetGuard, first_of, needs_manifest, needs_trace, with_ffa}
 
 -- COMMANDS THAT PLAY NO TRACE, OR NOT YET
 
@@ -91,7 +91,7 @@ could_read other = tt
 
 module _ (o : PlayOptions) (manifest : Option (List ℕ)) (expected : Option (Option (List ℕ))) (streams : Streams) (parts : Parts) (source : HasParts o.source manifest parts) (task : KnownTask) (serves : IsTaskFor o.purpose expected task) where
   abbrev pub begun : Bench
-  begun = begun_by o.machine.processors (first_of (with_worlds o.machine.worlds parts))
+  begun = begun_by o.machine.processors (first_of (with_ffa o.machine.ffa parts))
 
   leaving : {L : KnownTask → Bench → Type 0} → L task begun → Played o (opened manifest expected streams) L
   leaving left = record { parts = parts; source = source; task = task; serves = serves; left = left }

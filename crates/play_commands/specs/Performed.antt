@@ -1,11 +1,12 @@
 -- SPDX-License-Identifier: MIT OR Apache-2.0
 -- What a command of the program leaves.
-use Rattle.std.specs.Prelude.{◌≡◌, ◌⊎◌, ℕ, Bool, true, false, List, None, Option, Result, Ok, Err, IfErr, OnOk, is_some, option_map, ⊤, if◌then◌else◌, option_and_then}
+use Rattle.std.specs.Prelude.{◌≡◌, ◌⊎◌, ℕ, Bool, true, false, List, None, Option, Result, Ok, Err, IfErr, OnOk, is_some, option_map, ⊤, option_and_then}
 use Rattle.std.specs.List.{list_all}
 use Rattle.std.specs.Io.KnownBytes.{Keeps}
 use Rattle.ffa_model.specs.State.{State}
 use Rattle.ffa_model.specs.First.{first}
-use Rattle.ffa_model.specs.declared.manifest.Worlds.TheVariants.{One, Two}
+use Rattle.ffa_model.specs.declared.manifest.Ffa.{Ffa}
+use Rattle.ffa_model.specs.declared.manifest.Ffa.TheVariants.{V1_1}
 use Rattle.ffa_playable.specs.Bench.{Bench}
 use Rattle.play_demo.specs.Machine.{built_in_endpoints}
 use Rattle.ffa_manifest.specs.Document.{Parts}
@@ -36,14 +37,14 @@ use Rattle.play_files.specs.declared.commands.Files.{Files}
 
 -- the state in which a machine of these parts starts
 abbrev pub first_of : Parts → State
-first_of parts = first parts.worlds parts.ram_base parts.tables parts.ram_blocks parts.endpoints
+first_of parts = first parts.ffa parts.ram_base parts.tables parts.ram_blocks parts.endpoints
 
--- with worlds told apart where that is asked for
-abbrev pub with_worlds : Bool → Parts → Parts
-with_worlds tells parts = record parts { worlds = if tells then Two else parts.worlds }
+-- serving this version of FF-A
+abbrev pub with_ffa : Ffa → Parts → Parts
+with_ffa ffa parts = record parts { ffa = ffa }
 
 abbrev pub built_in_parts : Parts
-built_in_parts = record { ram_base = 0x40000000; ram_blocks = 1; tables = 0; endpoints = built_in_endpoints; worlds = One }
+built_in_parts = record { ram_base = 0x40000000; ram_blocks = 1; tables = 0; endpoints = built_in_endpoints; ffa = V1_1 }
 
 -- COMMANDS
 
@@ -101,13 +102,13 @@ pub record Played (o : PlayOptions) (ran : Ran) (Left : KnownTask → Bench → 
   pub source : HasParts o.source ran.manifest parts
   pub task : KnownTask
   pub serves : IsTaskFor o.purpose ran.expected task
-  pub left : Left task (begun_by o.machine.processors (first_of (with_worlds o.machine.worlds parts)))
+  pub left : Left task (begun_by o.machine.processors (first_of (with_ffa o.machine.ffa parts)))
 
 -- a trace was counted on the machine of its source, as far as this says
 abbrev pub IsCounted : PlayOptions → (manifest trace : Option (List ℕ)) → Tally → Tally → Result (Unit {0}) PlayError → Type 0
 IsCounted o manifest trace old new came =
     (parts : Parts) × HasParts o.source manifest parts
-    × CountsTrace (begun_by o.machine.processors (first_of (with_worlds o.machine.worlds parts))) trace old new came
+    × CountsTrace (begun_by o.machine.processors (first_of (with_ffa o.machine.ffa parts))) trace old new came
 
 -- a trace was counted to its end, or as far as its lines are good, or could be read; or there is no machine for it, and nothing was
 abbrev pub CountsFor : PlayOptions → (manifest trace : Option (List ℕ)) → Tally → Tally → Result (Unit {0}) Failure → Type 0

@@ -4,7 +4,7 @@ ghost use Rattle.std.specs.Prelude.{Some};
 ghost use Rattle.play_commands.specs.Performed.{CountsFor};
 ghost use Rattle.play_tasks.specs.Counted.{tally_of};
 
-use crate::playing::{machine_of, with_worlds};
+use crate::playing::machine_of;
 use crate::program::Program;
 use play_arguments::PlayOptions;
 use play_report::{Failure, Notes};
@@ -26,7 +26,7 @@ impl<M: Machines, A: Allocator + Copy> Program<M, A> {
     {
         let mut notes = Notes::new(self.alloc, false);
         let manifest = machine_of(self.manifests, options.source, Some(manifest), &mut notes)?;
-        let manifest = with_worlds(manifest, options.machine.worlds);
+        let manifest = manifest.with_ffa(options.machine.ffa);
         let processors = options.machine.processors;
         let mut everyone = Everyone::of(&manifest);
         everyone.runs_alone = processors.is_none();

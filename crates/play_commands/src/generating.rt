@@ -6,7 +6,6 @@ ghost use Rattle.play_report.specs.Failures.{IsShort};
 ghost use Rattle.play_report.specs.Manifests.{FailsUnplayed, bytes_of};
 ghost use Rattle.play_commands.specs.Performed.{IsMade};
 
-use crate::playing::with_worlds;
 use crate::program::Program;
 use ffa_model::Manifest;
 use play_arguments::GenerateOptions;
@@ -31,7 +30,7 @@ impl<M: Machines, A: Allocator + Copy> Program<M, A> {
         ensures failed { IfErr result (FailsUnplayed (bytes_of manifest.entry) (W.contents out.old) (W.contents out.new)) }
     {
         let manifest = read_manifest(self.manifests, options.manifest, manifest, notes)?;
-        let manifest = with_worlds(manifest, options.worlds);
+        let manifest = manifest.with_ffa(options.ffa);
         if options.count {
             self.print_outcomes(&manifest, options, out)
         } else {

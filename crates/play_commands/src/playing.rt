@@ -3,10 +3,10 @@
 ghost use Rattle.std.specs.Prelude.{◌≡◌, false, Some, IfErr, IfOk};
 ghost use Rattle.ffa_manifest.specs.Document.{parts_of};
 ghost use Rattle.play_report.specs.Manifests.{bytes_of};
-ghost use Rattle.play_commands.specs.Performed.{Does, FailsToName, HasParts, is_session, ran, with_worlds};
+ghost use Rattle.play_commands.specs.Performed.{Does, FailsToName, HasParts, is_session, ran};
 
 use crate::program::Program;
-use ffa_model::{Manifest, Worlds};
+use ffa_model::Manifest;
 use play_arguments::{PlayOptions, Request, Source};
 use play_demo::built_in;
 use play_files::Files;
@@ -35,7 +35,7 @@ impl<M: Machines, A: Allocator + Copy> Program<M, A> {
             ..
         } = files;
         let manifest = machine_of(self.manifests, options.source, manifest, notes)?;
-        let manifest = with_worlds(manifest, options.machine.worlds);
+        let manifest = manifest.with_ffa(options.machine.ffa);
         let trace = open(options.trace, trace)?;
         let task = Task::for_purpose(options.purpose, options.verbose, expected)?;
         let play = Play {
@@ -62,17 +62,6 @@ pub(crate) fn machine_of<'a, A: Allocator>(
     match source {
         Source::BuiltIn => Ok(built_in()),
         Source::File(path) => read_manifest(alloc, path, bytes, notes),
-    }
-}
-
-// The manifest, whose machine tells worlds apart where that is asked for.
-pub(crate) fn with_worlds(manifest: Manifest, tells: bool) -> Manifest
-    ensures { parts_of result ≡ with_worlds tells (parts_of manifest) }
-{
-    if tells {
-        manifest.with_worlds(Worlds::Two)
-    } else {
-        manifest
     }
 }
 

@@ -3,7 +3,7 @@
 #![tactic(auto)]
 
 ghost use Rattle.std.specs.Prelude.{◌≡◌};
-ghost use Rattle.ffa_model.specs.declared.manifest.Worlds.TheVariants.{One};
+ghost use Rattle.ffa_model.specs.declared.manifest.Ffa.TheVariants.{V1_1};
 ghost use Rattle.play_demo.specs.Machine.{sixteen_writable, endpoint_with, built_in_endpoints};
 
 use arrayvec::ArrayVec;
@@ -57,7 +57,7 @@ pub fn built_in() -> Manifest
     ensures blocks { result.ram_blocks ≡ 1 }
     ensures tables { result.tables.0 ≡ 0 }
     ensures endpoints { result.endpoints.items ≡ built_in_endpoints }
-    ensures worlds { result.worlds ≡ One }
+    ensures ffa { result.ffa ≡ V1_1 }
 {
     Manifest::of(Address(0x4000_0000), 1, PageNo(0), two_endpoints())
 }

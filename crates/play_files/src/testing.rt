@@ -201,7 +201,7 @@ fn play_one<H: AllocGlobal + fs::Files + Eprint + Clone + Drop, S: Read + Copy +
         frames: false,
         tlb: false,
         processors: options.processors,
-        worlds: options.worlds,
+        ffa: options.ffa,
     };
     let play = play_of(manifest.as_str(), path.as_str(), machine, options.words);
     let request = Request::Play(play);

@@ -19,4 +19,4 @@ begun_by (Some count) s = run_by (processors_for count) s
 -- where one of the machine of a manifest starts
 abbrev pub start_of : Option ℕ → Manifest → Bench
 start_of processors manifest =
-    begun_by processors (first manifest.worlds manifest.ram_base.0 manifest.tables.0 manifest.ram_blocks manifest.endpoints.items)
+    begun_by processors (first manifest.ffa manifest.ram_base.0 manifest.tables.0 manifest.ram_blocks manifest.endpoints.items)

@@ -1,6 +1,7 @@
 // SPDX-License-Identifier: MIT OR Apache-2.0
 //! Commands whose output can't be written, whose input can't be read, or that are refused memory.
 
+use ffa_model::Ffa;
 use fixtures::ROW_TEXT;
 use play_arguments::{MachineOptions, PlayOptions, Purpose, Request, Source, TextOptions};
 use play_commands::{Commands, Files, Program, show};
@@ -18,7 +19,7 @@ const MACHINE: MachineOptions = MachineOptions {
     frames: false,
     tlb: false,
     processors: None,
-    worlds: false,
+    ffa: Ffa::V1_1,
 };
 
 const TEXT: TextOptions = TextOptions {

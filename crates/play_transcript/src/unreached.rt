@@ -35,7 +35,7 @@ impl Everyone {
         ensures sends { result.sends_requests ≡ have_all 1 manifest.now.endpoints.items }
         ensures receives { result.receives_requests ≡ have_all 0 (drop 1 manifest.now.endpoints.items) }
         ensures takes { result.takes_messages ≡ have_all 2 manifest.now.endpoints.items }
-        ensures worlds { result.tells_no_worlds ≡ is_none (normal_of manifest.now.worlds (regions_at manifest.now.endpoints.items 0)) }
+        ensures worlds { result.tells_no_worlds ≡ is_none (normal_of manifest.now.ffa (regions_at manifest.now.endpoints.items 0)) }
         ensures alone { result.runs_alone ≡ true }
     {
         let all = manifest.endpoints.as_slice();

@@ -2,7 +2,7 @@
 //! Each check of each call, with the smallest operation that fails it and what is done before. docs/CALLS.md and
 //! docs/MEMORY.md list the checks; three of them nothing fails.
 use gorseplumb::Check::{self, *};
-use gorseplumb::{Endpoint, Manifest, Properties, Region, Rights, Version};
+use gorseplumb::{Endpoint, Ffa, Manifest, Properties, Region, Rights, Version};
 
 /// A check that fails.
 pub struct Row {
@@ -18,7 +18,7 @@ pub struct Row {
 const RAM: u32 = super::RAM as u32;
 
 /// The normal world; 8001 and 8002, which take part in all; and 8003, which takes part in nothing, and has pages that
-/// it may not write to. Worlds are told apart.
+/// it may not write to. The machine serves FF-A 1.2.
 pub const MACHINE: Manifest = Manifest::new(
     RAM,
     1,
@@ -38,7 +38,7 @@ pub const MACHINE: Manifest = Manifest::new(
         ),
     ],
 )
-.with_security_states(true);
+.with_ffa(Ffa::V1_2);
 
 /// Checks that nothing fails: no partition is blocked while the normal world runs, a donate grants no right, and a
 /// share that asks for zeros is no descriptor.

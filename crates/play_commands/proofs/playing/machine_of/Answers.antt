@@ -7,5 +7,5 @@ use Rattle.play_commands.proofs.playing.machine_of.Goals as goal
 pub returns-in-BuiltIn-clause-described : goal.returns-in-BuiltIn-clause-described
 returns-in-BuiltIn-clause-described g c =
     let built = c.built_in.ensures in
-    let is : parts_of c.built_in.result ≡ built_in_parts = λ i. record { ram_base = built.base i; ram_blocks = built.blocks i; tables = built.tables i; endpoints = built.endpoints i; worlds = built.worlds i } in
+    let is : parts_of c.built_in.result ≡ built_in_parts = λ i. record { ram_base = built.base i; ram_blocks = built.blocks i; tables = built.tables i; endpoints = built.endpoints i; ffa = built.ffa i } in
     rw c.in-BuiltIn.is is

@@ -2,18 +2,18 @@
 use Rattle.std.proofs.Common.{◌≡◌, ℕ, List, [], slice_index_or, is_some, refl, ap, subst, arith, option_map, All}
 use Rattle.std.proofs.lemmas.Grind.{common_steps}
 use Rattle.ffa_model.specs.declared.endpoint.Region.{Region}
-use Rattle.ffa_model.specs.declared.manifest.Worlds.{Worlds}
-use Rattle.ffa_model.specs.declared.manifest.Worlds.TheVariants.{One, Two}
+use Rattle.ffa_model.specs.declared.manifest.Ffa.{Ffa}
+use Rattle.ffa_model.specs.declared.manifest.Ffa.TheVariants.{V1_1, V1_2}
 use Rattle.ffa_model.specs.Regions.{has_page, is_normal, normal_of}
 use Rattle.ffa_model.proofs.Finds.{find-alike}
 use Rattle.ffa_stage2.specs.Layout.{regions_in}
 use Rattle.ffa_stage2.proofs.layout.Layout.normal_until.Goals as goal
 
 -- pages that each region has or none does
-alike-normal : (base : ℕ) (worlds : Worlds) (regions : List Region) (p first : ℕ) → All (λ (r : Region). has_page base p r ≡ has_page base first r) regions
-    → is_normal base (normal_of worlds regions) p ≡ is_normal base (normal_of worlds regions) first
-alike-normal base One regions p first alike = refl
-alike-normal base Two regions p first alike =
+alike-normal : (base : ℕ) (ffa : Ffa) (regions : List Region) (p first : ℕ) → All (λ (r : Region). has_page base p r ≡ has_page base first r) regions
+    → is_normal base (normal_of ffa regions) p ≡ is_normal base (normal_of ffa regions) first
+alike-normal base V1_1 regions p first alike = refl
+alike-normal base V1_2 regions p first alike =
     ap (λ o. is_some (option_map (λ (r : Region). r.rights) o)) (find-alike (has_page base p) (has_page base first) regions alike)
 
 pub returns-clause-alike : goal.returns-clause-alike
@@ -23,5 +23,5 @@ returns-clause-alike c = λ p low high.
     let first : ℕ = c.args.first.0 in
     let regions : List Region = c.as_slice.result.now in
     let its : regions ≡ slice_index_or (regions_in layout) 0 [] = grind (arith, common_steps) in
-    subst (λ (rs : List Region). is_normal base (normal_of layout.worlds rs) p ≡ is_normal base (normal_of layout.worlds rs) first) its
-    (alike-normal base layout.worlds regions p first (c.regions_until.ensures.alike p low high))
+    subst (λ (rs : List Region). is_normal base (normal_of layout.ffa rs) p ≡ is_normal base (normal_of layout.ffa rs) first) its
+    (alike-normal base layout.ffa regions p first (c.regions_until.ensures.alike p low high))

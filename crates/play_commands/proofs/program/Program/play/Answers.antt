@@ -2,7 +2,8 @@
 use Rattle.std.proofs.Common.{refl, subst, ◌∙◌, option_map}
 use Rattle.std.proofs.lemmas.Result.{err_from_is_err_and}
 use Rattle.std.proofs.KnownBytes.{Keeps-refl}
-use Rattle.ffa_manifest.specs.Document.{Parts, parts_of}
+use Rattle.ffa_model.specs.declared.manifest.Manifest.{Manifest}
+use Rattle.ffa_manifest.specs.Document.{parts_of}
 use Rattle.play_report.specs.Manifests.{bytes_of}
 use Rattle.play_tasks.specs.Plays.{Plays}
 use Rattle.play_tasks.specs.Purposes.{known}
@@ -24,7 +25,7 @@ returns-clause-does g c =
     let expected = option_map g.R.Read.remaining c.args.files.expected in
     let task = known g.R.Read.remaining c.in_ok-task.task in
     let path = c.in_ok-trace.trace.path in
-    let played = subst (λ (parts : Parts). Plays task path (begun_by c.args.options.machine.processors (first_of parts)) streams c.play.result) c.with_worlds-manifest.ensures c.play.ensures.played in
+    let played = subst (λ (m : Manifest). Plays task path (begun_by c.args.options.machine.processors (first_of (parts_of m))) streams c.play.result) c.with_ffa-manifest.ensures c.play.ensures.played in
     rw c.in_ok-trace.ensures.opened
     (play_does c.args.options (bytes_of c.args.files.manifest) expected streams (parts_of c.in_ok-manifest.manifest) c.in_ok-manifest.ensures.described task c.in_ok-task.ensures.serves path c.play.result played)
 
