@@ -178,7 +178,7 @@ struct gorseplumb_region {
 
 /* An endpoint of a machine. The first is the normal world, whose UUID is zeros. */
 struct gorseplumb_endpoint {
-    uint32_t version;    /* the form of its descriptors: 0 is that of FF-A 1.1, 1 the compact one */
+    uint32_t version;    /* the form of its descriptors, in FF-A 1.2 at first: 0 is that of FF-A 1.1, 1 the compact one */
     uint32_t properties; /* as in a manifest's text: 1 receives direct requests, 2 sends them, 4 indirect messages, 8 notifications */
     uint8_t uuid[16];
     uint32_t region_count; /* of `regions`, from the first on; what stands behind is not read */

@@ -2,6 +2,7 @@
 """The worked rows of tests/rows: the library answers each line as its guard wants, on the heap's RAM and on lent RAM."""
 from __future__ import annotations
 
+from dataclasses import replace
 from importlib.machinery import SourceFileLoader
 from importlib.util import module_from_spec, spec_from_loader
 from types import ModuleType
@@ -9,7 +10,7 @@ from types import ModuleType
 import pytest
 from conftest import TOP
 
-from gorseplumb import Machine, Ram, play
+from gorseplumb import Ffa, Machine, Manifest, Ram, play
 
 
 def play_rows() -> ModuleType:
@@ -31,6 +32,7 @@ SERVED = {
     "call 84000064 84000083": "regs 0 84000061",
     "call 84000064 C4000083": "regs 0 84000061",
     "call 84000083": NO_DATA,
+    "call C4000083": NO_DATA,
     "call FF84000083 A100000001 A200000002 A300000003 A400000004 A500000005 A600000006 A700000007": NO_DATA,
 }
 
@@ -63,6 +65,8 @@ def test_rows_have_what_the_library_serves() -> None:
 def test_a_row_gives_what_it_wants(row: str, blocks: int) -> None:
     lines = ROWS[row]
     wanted = wanted_of(lines)
-    for manifest in SCRIPT.named(lines, "on"):
-        with Machine(TOP / "tests" / "rows" / manifest, Ram(blocks) if blocks else None) as machine:
+    ffa = Ffa.V1_2 if "--ffa" in SCRIPT.named(lines, "with") else Ffa.V1_1
+    for name in SCRIPT.named(lines, "on"):
+        manifest = replace(Manifest.read(TOP / "tests" / "rows" / name), ffa=ffa)
+        with Machine(manifest, Ram(blocks) if blocks else None) as machine:
             assert list(play(machine, lines)) == wanted

@@ -12,7 +12,7 @@ use Rattle.ffa_model.specs.declared.operation.Op.TheVariants.{Call, Load, Store,
 use Rattle.ffa_model.specs.declared.operation.Outcome.TheVariants.{Data, Done}
 use Rattle.ffa_model.specs.declared.operation.ErrorCode.{ErrorCode}
 use Rattle.ffa_model.specs.declared.call.Call as calls
-use Rattle.ffa_model.specs.declared.call.Call.TheVariants.{PartitionInfoGet, MemDonate, MemLend, MemShare, MemRetrieve, MemRelinquish, MemReclaim, MsgSend2}
+use Rattle.ffa_model.specs.declared.call.Call.TheVariants.{PartitionInfoGet, MemDonate, MemLend, MemShare, MemRetrieve, MemRelinquish, MemReclaim, MsgSend2, Version}
 use Rattle.ffa_model.specs.declared.rights.Kind.{Kind}
 use Rattle.ffa_model.specs.declared.rights.Kind.TheVariants.{Share, Lend, Donate}
 use Rattle.ffa_model.specs.SendDescriptor.{SendRecord}
@@ -47,6 +47,7 @@ use Rattle.ffa_laws.proofs.Opened.{unnamed-opened}
 use Rattle.ffa_laws.proofs.ReturnLaws.{unnamed-still}
 use Rattle.ffa_laws.proofs.SendLaws.{fresh, free, no-offer, offer, offered-owner}
 use Rattle.ffa_laws.proofs.Taken as retrieve
+use Rattle.ffa_laws.proofs.Versions.{version-leaves}
 use Rattle.ffa_laws.proofs.Taken.{Taken, state-taken, taken}
 
 module _ (s : State) (steady : IsSteady s) (e p : ℕ) (owned : owner_of s p ≡ e) (unnamed : handle_at s p ≡ None) (other : s.runner ≢ e) where
@@ -84,6 +85,7 @@ module _ (s : State) (steady : IsSteady s) (e p : ℕ) (owned : owner_of s p ≡
 
   unnamed-service : (call : calls.Call) → first_failure (service s call).guards ≡ None → handle_at (service s call).state p ≡ None
   unnamed-service (PartitionInfoGet uuid flags) none = elim (is_count_alone flags) as (λ b. handle_at (cond b s (filled s s.runner (info_bytes (version_of s s.runner) s.parties (uuid_bytes uuid)))) p ≡ None) [ true ↦ unnamed | false ↦ unnamed ]
+  unnamed-service (Version word) none = version-leaves (λ t. handle_at t p ≡ None) s.ffa s word unnamed (λ version. unnamed)
   unnamed-service (MemDonate x) none = unnamed-sent Donate x none
   unnamed-service (MemLend x) none = unnamed-sent Lend x none
   unnamed-service (MemShare x) none = unnamed-sent Share x none

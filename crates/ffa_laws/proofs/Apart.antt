@@ -13,7 +13,7 @@ use Rattle.ffa_model.specs.declared.operation.Op.{Op}
 use Rattle.ffa_model.specs.declared.operation.Op.TheVariants.{Call, Load, Store, Fetch}
 use Rattle.ffa_model.specs.declared.operation.Outcome.TheVariants.{Data, Done}
 use Rattle.ffa_model.specs.declared.call.Call as calls
-use Rattle.ffa_model.specs.declared.call.Call.TheVariants.{PartitionInfoGet, MemDonate, MemLend, MemShare, MemRetrieve, MemRelinquish, MemReclaim}
+use Rattle.ffa_model.specs.declared.call.Call.TheVariants.{PartitionInfoGet, MemDonate, MemLend, MemShare, MemRetrieve, MemRelinquish, MemReclaim, Version}
 use Rattle.ffa_model.specs.declared.rights.Kind.{Kind}
 use Rattle.ffa_model.specs.declared.rights.Kind.TheVariants.{Share, Lend, Donate}
 use Rattle.ffa_model.specs.declared.transaction.Receiver.{Receiver}
@@ -40,6 +40,7 @@ use Rattle.ffa_laws.proofs.Closed.{get-remove}
 use Rattle.ffa_laws.proofs.Form.{accessed-kept, served-kept}
 use Rattle.ffa_laws.proofs.Opened.{Transactions, get-insert}
 use Rattle.ffa_laws.proofs.Taken as retrieve
+use Rattle.ffa_laws.proofs.Versions.{version-leaves}
 use Rattle.ffa_laws.proofs.Taken.{Taken, state-taken, taken}
 
 -- ---- a send descriptor
@@ -115,6 +116,7 @@ module _ (s : State) (apart : AreApart s) where
 
   apart-service : (call : calls.Call) → first_failure (service s call).guards ≡ None → AreApart (service s call).state
   apart-service (PartitionInfoGet uuid flags) none = elim (is_count_alone flags) as (λ b. AreApart (cond b s (filled s s.runner (info_bytes (version_of s s.runner) s.parties (uuid_bytes uuid))))) [ true ↦ apart | false ↦ apart ]
+  apart-service (Version word) none = version-leaves AreApart s.ffa s word apart (λ version. apart)
   apart-service (MemDonate x) none = apart-sent Donate x.total
   apart-service (MemLend x) none = apart-sent Lend x.total
   apart-service (MemShare x) none = apart-sent Share x.total

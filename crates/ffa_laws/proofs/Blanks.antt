@@ -15,7 +15,7 @@ use Rattle.ffa_model.specs.declared.operation.Outcome.{Outcome}
 use Rattle.ffa_model.specs.declared.operation.Outcome.TheVariants.{Regs, Data, Done}
 use Rattle.ffa_model.specs.declared.call.Reply.TheVariants.{Retrieved}
 use Rattle.ffa_model.specs.declared.call.Call as calls
-use Rattle.ffa_model.specs.declared.call.Call.TheVariants.{RxtxMap, PartitionInfoGet, MemDonate, MemLend, MemShare, MemRetrieve, MemRelinquish, MemReclaim, MsgSend2}
+use Rattle.ffa_model.specs.declared.call.Call.TheVariants.{RxtxMap, PartitionInfoGet, MemDonate, MemLend, MemShare, MemRetrieve, MemRelinquish, MemReclaim, MsgSend2, Version}
 use Rattle.ffa_model.specs.declared.rights.Kind.{Kind}
 use Rattle.ffa_model.specs.declared.rights.Kind.TheVariants.{Share, Lend, Donate}
 use Rattle.ffa_model.specs.declared.rights.Rights.{Rights}
@@ -28,7 +28,7 @@ use Rattle.ffa_model.specs.SendDescriptor.{SendRecord, send_of}
 use Rattle.ffa_model.specs.RetrieveDescriptor.{retrieve_of}
 use Rattle.ffa_model.specs.RelinquishDescriptor.{relinquish_of}
 use Rattle.ffa_model.specs.ResponseBytes.{response_bytes}
-use Rattle.ffa_model.specs.State.{State, Page, Transaction, Buffers, buffers_of, page_at, transaction_of, version_of, own_right_of, owner_of}
+use Rattle.ffa_model.specs.State.{State, Page, Transaction, Buffers, buffers_of, page_at, transaction_of, version_of, own_right_of, owner_of, with_version}
 use Rattle.ffa_model.specs.Access.{access, held_by, names, right_by, right_of, transaction_at, ownership_of}
 use Rattle.ffa_model.specs.Buffers.{filled, filled_pages, map_guards}
 use Rattle.ffa_model.specs.Calls.{Service, Stepped, answered, encode, first_failure, served}
@@ -48,6 +48,9 @@ use Rattle.ffa_model.proofs.Runs.{flat-run-same}
 use Rattle.ffa_laws.specs.Steady.{IsAlone, IsSteady}
 use Rattle.ffa_laws.specs.Readable.{blank, blank_where, blanked}
 use Rattle.ffa_laws.proofs.Maps.{at-map_at, map_at-same, map_at-set, map_at-twice}
+use Rattle.ffa_model.specs.declared.manifest.Ffa.{Ffa}
+use Rattle.ffa_model.specs.declared.manifest.Ffa.TheVariants as served
+use Rattle.ffa_model.specs.Setup.{form_of, is_served_version, version_answer, version_kept}
 use Rattle.ffa_laws.proofs.MemoryLaws.{fault-none}
 
 -- ---- one page
@@ -326,7 +329,19 @@ module _ (s : State) (hides : ℕ → Bool) where
               ∙ (λ i. record (msg_send2 s).state { pages = filled-o (message_in (tx_bytes s s.runner)) (buffers_of s (header_in (tx_bytes s s.runner)).receiver) i });
         }
 
+    answer-o : (ffa : Ffa) (word : ℕ) → version_answer ffa o word ≡ version_answer ffa s word
+    answer-o served.V1_1 word = refl
+    answer-o served.V1_2 word = refl
+
+    version-o : (ffa : Ffa) (word : ℕ) → blank hides (version_kept ffa o word) ≡ blank hides (version_kept ffa s word)
+    version-o served.V1_1 word = λ i. record s { pages = same i }
+    version-o served.V1_2 word = elim (is_served_version s word) as (λ b. blank hides (cond b (with_version o s.runner (form_of word)) o) ≡ blank hides (cond b (with_version s s.runner (form_of word)) s)) [
+      | true ↦ λ i. record (with_version s s.runner (form_of word)) { pages = same i }
+      | false ↦ λ i. record s { pages = same i }
+    ]
+
     service-o : (call : calls.Call) → AreReadAlike call (tx_bytes o s.runner) (tx_bytes s s.runner) → Alike (service o call) (service s call)
+    service-o (Version word) part = record { guards = refl; reply = answer-o s.ffa word; state = version-o s.ffa word }
     service-o (RxtxMap tx rx pages) part =
         record {
           guards = λ i. first_failure (map_guards s.runner (buffers_of s s.runner) (ownership-o i) tx rx pages);

@@ -12,7 +12,7 @@ use Rattle.ffa_model.specs.declared.operation.Size.{Size}
 use Rattle.ffa_model.specs.declared.rights.Kind.{Kind}
 use Rattle.ffa_model.specs.declared.rights.Kind.TheVariants.{Share, Lend, Donate}
 use Rattle.ffa_model.specs.declared.call.Call as calls
-use Rattle.ffa_model.specs.declared.call.Call.TheVariants.{PartitionInfoGet, MemDonate, MemLend, MemShare, MemRetrieve, MemRelinquish, MemReclaim, MsgSend2}
+use Rattle.ffa_model.specs.declared.call.Call.TheVariants.{PartitionInfoGet, MemDonate, MemLend, MemShare, MemRetrieve, MemRelinquish, MemReclaim, MsgSend2, Version}
 use Rattle.ffa_model.specs.Registers.{decode}
 use Rattle.ffa_model.specs.SendDescriptor.{SendRecord}
 use Rattle.ffa_model.specs.State.{State, Page, Party, buffers_of, is_known, is_known_among, transaction_of, version_of}
@@ -27,6 +27,7 @@ use Rattle.ffa_model.specs.Messages.{header_in, message_in, send2_guards, tx_byt
 use Rattle.ffa_model.specs.Step.{serve, service, step}
 use Rattle.ffa_laws.specs.Isolation.{is_send2}
 use Rattle.ffa_laws.specs.OwnAccess.{is_call, is_memory_call}
+use Rattle.ffa_laws.proofs.Versions.{version-leaves}
 use Rattle.ffa_laws.proofs.Form.{accessed-kept, served-kept}
 
 -- ---- the endpoints stay the same, and where RAM and the tables begin
@@ -47,6 +48,7 @@ relinquished-fixed s (Some d) = elim (transaction_of s d.handle) as (λ o. fixed
 
 service-fixed : (s : State) (call : calls.Call) → fixed (service s call).state ≡ fixed s
 service-fixed s (PartitionInfoGet uuid flags) = elim (is_count_alone flags) as (λ b. fixed (cond b s (filled s s.runner (info_bytes (version_of s s.runner) s.parties (uuid_bytes uuid)))) ≡ fixed s) [ true ↦ refl | false ↦ refl ]
+service-fixed s (Version word) = version-leaves (λ t. fixed t ≡ fixed s) s.ffa s word refl (λ version. refl)
 service-fixed s (MemDonate x) = sent-fixed s Donate (send_read s Donate x.total)
 service-fixed s (MemLend x) = sent-fixed s Lend (send_read s Lend x.total)
 service-fixed s (MemShare x) = sent-fixed s Share (send_read s Share x.total)
@@ -95,6 +97,7 @@ module _ (R : List (Option Page) → Type 0) (s : State) (same : R s.pages) (by_
         | true ↦ same
         | false ↦ by_info (info_bytes (version_of s s.runner) s.parties (uuid_bytes uuid))
       ]
+  kept-service (Version word) by_send by_memory none = version-leaves (λ t. R t.pages) s.ffa s word same (λ version. same)
   kept-service (MemDonate x) by_send by_memory none = by_memory refl none
   kept-service (MemLend x) by_send by_memory none = by_memory refl none
   kept-service (MemShare x) by_send by_memory none = by_memory refl none

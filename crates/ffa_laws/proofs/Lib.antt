@@ -12,6 +12,7 @@ pub mod Told
 pub mod Bitmaps
 pub mod Raised
 pub mod BufferLaws
+pub mod Versions
 pub mod SetupLaws
 pub mod ScheduleLaws
 pub mod MessageLaws

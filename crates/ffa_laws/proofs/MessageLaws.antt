@@ -12,7 +12,7 @@ use Rattle.ffa_model.specs.Memory.{page_bytes, run_bytes}
 use Rattle.ffa_model.specs.Buffers.{buffers_in, buffers_with_rx, filled, filled_pages, is_full, room_of}
 use Rattle.ffa_model.specs.Calls.{first_failure}
 use Rattle.ffa_model.specs.Messages.{MessageHeader, delivered, header_in, message_in, msg_send2, send2_guards, tx_bytes}
-use Rattle.ffa_model.specs.Notifications.{manager_class, notifications_of, message_bits, with_framework_bit, has_bitmaps_in}
+use Rattle.ffa_model.specs.Notifications.{manager_class, notifications_of, message_bits, has_bitmaps_in, with_pending}
 use Rattle.ffa_model.specs.RunStates.{schedule_of}
 use Rattle.ffa_laws.specs.Steady.{IsSteady}
 use Rattle.ffa_laws.specs.View.{view, is_near, kept}
@@ -99,7 +99,7 @@ module _ (s : State) (steady : IsSteady s) where
   pub steady-send2 : IsSteady (msg_send2 s).state
   steady-send2 =
       let after = steady-filled s steady receiver bytes in
-      steady-notified (filled s receiver bytes) after (with_framework_bit (notifications_of s) receiver) after.bound
+      steady-notified (filled s receiver bytes) after (with_pending (notifications_of s) receiver manager_class message_bits) after.bound
 
   module _ (e : ℕ) (known : is_known s e ≡ true) where
     abbrev new_pages : List (Option Page)

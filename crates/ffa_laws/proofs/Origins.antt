@@ -5,7 +5,7 @@ use Rattle.std.specs.FinMap as finite
 use Rattle.std.proofs.lemmas.Option.{none-some, same_Some}
 use Rattle.byteorder.specs.Endian.{little_bytes}
 use Rattle.ffa_model.specs.declared.call.Call as calls
-use Rattle.ffa_model.specs.declared.call.Call.TheVariants.{PartitionInfoGet, MemDonate, MemLend, MemShare, MemRetrieve, MemRelinquish, MemReclaim}
+use Rattle.ffa_model.specs.declared.call.Call.TheVariants.{PartitionInfoGet, MemDonate, MemLend, MemShare, MemRetrieve, MemRelinquish, MemReclaim, Version}
 use Rattle.ffa_model.specs.declared.descriptor.RelinquishDesc.{RelinquishDesc}
 use Rattle.ffa_model.specs.declared.operation.Op.{Op}
 use Rattle.ffa_model.specs.declared.operation.Op.TheVariants.{Call, Load, Store, Fetch}
@@ -30,6 +30,7 @@ use Rattle.ffa_laws.proofs.Form.{accessed-kept, served-kept}
 use Rattle.ffa_laws.proofs.Opened.{Transactions, get-insert}
 use Rattle.ffa_laws.proofs.SendLaws.{IsOffer, no-offer, offer}
 use Rattle.ffa_laws.proofs.Taken as retrieve
+use Rattle.ffa_laws.proofs.Versions.{version-leaves}
 use Rattle.ffa_laws.proofs.Taken.{Taken, state-taken, taken}
 
 -- what is open under a handle was open before, and names the same pages
@@ -111,6 +112,7 @@ module _ (s : State) (h : ℕ) where
         | true ↦ stays
         | false ↦ inl (same-open s.transactions h)
       ]
+  comes-service (Version word) none = version-leaves (Comes s h) s.ffa s word (inl (same-open s.transactions h)) (λ version. inl (same-open s.transactions h))
   comes-service (MemDonate x) none = comes-sent Donate x none
   comes-service (MemLend x) none = comes-sent Lend x none
   comes-service (MemShare x) none = comes-sent Share x none

@@ -11,14 +11,14 @@ use Rattle.ffa_model.specs.declared.operation.Op.{Op}
 use Rattle.ffa_model.specs.declared.operation.Op.TheVariants.{Call, Load, Store, Fetch}
 use Rattle.ffa_model.specs.declared.operation.Outcome.TheVariants.{Data, Done}
 use Rattle.ffa_model.specs.declared.call.Call as calls
-use Rattle.ffa_model.specs.declared.call.Call.TheVariants.{PartitionInfoGet, MemDonate, MemLend, MemShare, MemRetrieve, MemRelinquish, MemReclaim, MsgSend2}
+use Rattle.ffa_model.specs.declared.call.Call.TheVariants.{PartitionInfoGet, MemDonate, MemLend, MemShare, MemRetrieve, MemRelinquish, MemReclaim, MsgSend2, Version}
 use Rattle.ffa_model.specs.declared.rights.Kind.{Kind}
 use Rattle.ffa_model.specs.declared.rights.Kind.TheVariants.{Share, Lend, Donate}
 use Rattle.ffa_model.specs.declared.rights.Rights.{Rights}
 use Rattle.ffa_model.specs.Bits.{is_set}
 use Rattle.ffa_model.specs.Rights.{is_share, is_within}
 use Rattle.ffa_model.specs.SendDescriptor.{SendRecord}
-use Rattle.ffa_model.specs.State.{State, Page, Transaction, page_at, owner_of, buffers_of, transaction_of, version_of}
+use Rattle.ffa_model.specs.State.{State, Page, Transaction, page_at, owner_of, buffers_of, transaction_of, version_of, with_version}
 use Rattle.ffa_model.specs.Access.{access, held_by, is_offered, is_receiver, names, right_by, right_of, transaction_at, ownership_of}
 use Rattle.ffa_model.specs.Buffers.{filled}
 use Rattle.ffa_model.specs.Calls.{first_failure}
@@ -44,6 +44,7 @@ use Rattle.ffa_laws.proofs.Opened.{opened, transaction_at-opened}
 use Rattle.ffa_laws.proofs.SendLaws.{IsOffer, alone, free, fresh, no-offer, offer}
 use Rattle.ffa_laws.proofs.Taken as retrieve
 use Rattle.ffa_laws.proofs.Taken.{Taken, state-taken, taken}
+use Rattle.ffa_laws.proofs.Versions.{version-leaves}
 use Rattle.ffa_laws.proofs.Within.{within-same}
 
 -- e is not offered what it has sent itself
@@ -345,6 +346,7 @@ module _ (s : State) (steady : IsSteady s) where
         | true ↦ as_before s s false false (λ e p. refl)
         | false ↦ as_before s (filled s s.runner (info_bytes (version_of s s.runner) s.parties (uuid_bytes uuid))) false false (access-filled s s.runner (info_bytes (version_of s s.runner) s.parties (uuid_bytes uuid)))
       ]
+  own-service (Version word) none = version-leaves (λ t. Own s t false false) s.ffa s word (as_before s s false false (λ e p. refl)) (λ version. as_before s (with_version s s.runner version) false false (λ e p. refl))
   own-service (MemDonate x) none = send-own Donate x true (λ is. absurd (true≢false is)) none
   own-service (MemLend x) none = send-own Lend x true (λ is. absurd (true≢false is)) none
   own-service (MemShare x) none = send-own Share x false (λ is. refl) none

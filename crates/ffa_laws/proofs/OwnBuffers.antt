@@ -11,7 +11,7 @@ use Rattle.ffa_model.specs.declared.rights.Kind.{Kind}
 use Rattle.ffa_model.specs.declared.rights.Kind.TheVariants.{Share, Lend, Donate}
 use Rattle.ffa_model.specs.declared.descriptor.RetrieveDesc.{RetrieveDesc}
 use Rattle.ffa_model.specs.declared.call.Call as calls
-use Rattle.ffa_model.specs.declared.call.Call.TheVariants.{PartitionInfoGet, MsgWait, RxRelease, RxtxMap, RxtxUnmap, MemDonate, MemLend, MemShare, MemRetrieve, MemRelinquish, MsgSend2}
+use Rattle.ffa_model.specs.declared.call.Call.TheVariants.{PartitionInfoGet, MsgWait, RxRelease, RxtxMap, RxtxUnmap, MemDonate, MemLend, MemShare, MemRetrieve, MemRelinquish, MsgSend2, Version}
 use Rattle.ffa_model.specs.SendDescriptor.{SendRecord}
 use Rattle.ffa_model.specs.Identifiers.{place}
 use Rattle.ffa_model.specs.Lists.{is_in_run}
@@ -29,6 +29,7 @@ use Rattle.ffa_model.proofs.Places.{same-known}
 use Rattle.ffa_laws.specs.Steady.{IsSteady}
 use Rattle.ffa_laws.specs.Isolation.{is_rx}
 use Rattle.ffa_laws.proofs.Form.{accessed-kept, served-kept}
+use Rattle.ffa_laws.proofs.Versions.{version-leaves}
 use Rattle.ffa_laws.proofs.Written.{at-changed, is_at, with_rx_full}
 
 module _ (s : State) (steady : IsSteady s) (e : ℕ) (known : is_known s e ≡ true) (other : s.runner ≢ e) (p : ℕ) where
@@ -66,6 +67,7 @@ module _ (s : State) (steady : IsSteady s) (e : ℕ) (known : is_known s e ≡ t
 
   rx-service : (call : calls.Call) → is_rx (service s call).state e p ≡ is_rx s e p
   rx-service RxRelease = rx-filled s.runner false
+  rx-service (Version word) = version-leaves (λ t. is_rx t e p ≡ is_rx s e p) s.ffa s word refl (λ version. refl)
   rx-service MsgWait = rx-filled s.runner false
   rx-service (RxtxMap tx rx pages) = rx-beside (Some (new_buffers s.ram_base tx rx pages))
   rx-service (RxtxUnmap endpoint) = rx-beside None

@@ -7,7 +7,7 @@ use Rattle.std.proofs.lemmas.List.{get_or_past}
 use Rattle.std.proofs.lemmas.Option.{same_Some}
 use Rattle.ffa_model.specs.declared.descriptor.RelinquishDesc.{RelinquishDesc}
 use Rattle.ffa_model.specs.declared.call.Call as calls
-use Rattle.ffa_model.specs.declared.call.Call.TheVariants.{PartitionInfoGet, MemDonate, MemLend, MemShare, MemRetrieve, MemRelinquish, MemReclaim, MsgSend2}
+use Rattle.ffa_model.specs.declared.call.Call.TheVariants.{PartitionInfoGet, MemDonate, MemLend, MemShare, MemRetrieve, MemRelinquish, MemReclaim, MsgSend2, Version}
 use Rattle.ffa_model.specs.declared.call.Transfer.{Transfer}
 use Rattle.ffa_model.specs.declared.operation.Op.TheVariants.{Call}
 use Rattle.ffa_model.specs.declared.rights.Kind.{Kind}
@@ -50,6 +50,7 @@ use Rattle.ffa_laws.proofs.SoundSteady.{sound-steady}
 use Rattle.ffa_laws.proofs.Stores.{same-beside}
 use Rattle.ffa_laws.proofs.Taken as retrieve
 use Rattle.ffa_laws.proofs.Taken.{Taken, state-taken, taken}
+use Rattle.ffa_laws.proofs.Versions.{version-leaves}
 use Rattle.ffa_laws.proofs.Writers.{bytes_in, elsewhere-filled}
 
 module _ (s : State) (sound : IsSoundState s) (b : Buffers) (has : buffers_of s s.runner ≡ Some b) (p : ℕ) (its : is_in_run b.tx b.pages p ≡ true) where
@@ -150,6 +151,7 @@ module _ (s : State) (sound : IsSoundState s) (b : Buffers) (has : buffers_of s 
         | true ↦ refl
         | false ↦ by-runner s.pages (info_bytes (version_of s s.runner) s.parties (uuid_bytes uuid))
       ]
+  off-service (Version word) none = version-leaves (λ t. page_bytes t p ≡ page_bytes s p) s.ffa s word refl (λ version. refl)
   off-service (MemDonate x) none = send-off Donate x none
   off-service (MemLend x) none = send-off Lend x none
   off-service (MemShare x) none = send-off Share x none

@@ -18,12 +18,12 @@ use Rattle.ffa_model.specs.Access.{held_by, is_offered, is_receiver, Ownership, 
 use Rattle.ffa_model.specs.Buffers.{buffers_in, buffers_with_rx, filled, is_full}
 use Rattle.ffa_model.specs.RefusalCodes.{code_of}
 use Rattle.ffa_model.specs.Calls.{first_failure}
-use Rattle.ffa_model.specs.ResponseBytes.{response_size}
+use Rattle.ffa_model.specs.ResponseBytes.{response_bytes, response_size}
 use Rattle.ffa_model.specs.RetrieveDescriptor.{retrieve_of}
 use Rattle.ffa_model.specs.RunStates.{schedule_of}
 use Rattle.ffa_model.specs.declared.call.Transfer.{Transfer}
 use Rattle.ffa_model.specs.Transactions.{ceiling, holding, open_of, scene_of, with_open, with_transaction}
-use Rattle.ffa_model.specs.MemoryRetrieve.{asked_right, asking_guards, donated_if, holding_guards, is_kind_right, memory_retrieve, response_length, retrieve_guards, retrieve_read, retrieved, retrieved_from, retrieved_right, right_for, taken_in, with_retrieved}
+use Rattle.ffa_model.specs.MemoryRetrieve.{response_to, asked_right, asking_guards, donated_if, holding_guards, is_kind_right, memory_retrieve, response_length, retrieve_guards, retrieve_read, retrieved, retrieved_from, retrieved_right, right_for, taken_in, with_retrieved}
 use Rattle.ffa_laws.specs.Steady.{IsSteady}
 use Rattle.ffa_laws.specs.View.{view, involves, is_near, kept, seen_by}
 use Rattle.ffa_laws.specs.Events.{Event, apply_all, public_change, takes, takes_from, taking, where_true, with_holder}
@@ -42,6 +42,7 @@ use Rattle.ffa_laws.proofs.Written.{rewritten-filled, rx-own, seen-filled, with_
 use Rattle.ffa_laws.proofs.Taken as retrieve
 use Rattle.ffa_laws.proofs.Taken.{Taken, checks, size-before, state-taken, steady-before, taken}
 use Rattle.ffa_model.proofs.Guards.{invalid, denied, busy}
+use Rattle.ffa_laws.proofs.Versions.{version-seen}
 use Rattle.ffa_model.specs.declared.refusal.Refusal.{Refusal}
 
 -- ---- the guards, in the runner's view
@@ -108,7 +109,7 @@ module _ (s : State) (steady : IsSteady s) where
       λ i. cond (some-seen s steady s.runner i) (cond (x.total == x.fragment) (cond (nat_le x.total (room-seen s steady s.runner i)) (cond (x.address == 0) (cond (x.pages == 0) (same i) (Some InvalidParameters)) (Some InvalidParameters)) (Some InvalidParameters)) (Some InvalidParameters)) (Some InvalidParameters)
 
   same-read : (total : ℕ) → retrieve_read v total ≡ retrieve_read s total
-  same-read total = ap (λ tx. retrieve_of s.runner (in_version (version_of s s.runner) (take total tx))) (tx-seen s steady)
+  same-read total = λ i. retrieve_of s.runner (in_version (version-seen s.runner s steady.runner i) (take total (tx-seen s steady i)))
 
   same-guards : (x : Transfer) → first_failure (memory_retrieve v x).guards ≡ first_failure (memory_retrieve s x).guards
   same-guards x =
@@ -164,6 +165,8 @@ module _ (s : State) (steady : IsSteady s) (x : Transfer) (its : Taken s x) wher
       ap (retrieved seen) (same-read s steady x.total ∙ its.read)
       ∙ ap (retrieved_from seen its.asked) seen-there
       ∙ ap (λ most. retrieved_right seen h (seen_by s.runner t) s.runner (asked_right most its.asked)) (ceiling-seen s.runner s steady h t its.is.there known s.runner)
+      ∙ ap (λ version. filled (with_retrieved seen h (seen_by s.runner t) s.runner right) s.runner (response_bytes version (response_to h (seen_by s.runner t) s.runner right)))
+      (version-seen s.runner s steady.runner)
       ∙ ap (λ u. filled u s.runner response) own-taken
       ∙ view-filled s.runner before response steady.runner
       ∙ sym (ap (view s.runner) (state-taken s x its))
@@ -171,7 +174,9 @@ module _ (s : State) (steady : IsSteady s) (x : Transfer) (its : Taken s x) wher
   own-reply : (memory_retrieve seen x).reply ≡ (memory_retrieve s x).reply
   own-reply =
       ap Retrieved (
-      ap (response_length seen) (same-read s steady x.total ∙ its.read) ∙ ap (λ o. option_map_or (λ (u : Transaction). response_size (version_of s s.runner) u.ranges) o 0) seen-there
+      ap (response_length seen) (same-read s steady x.total ∙ its.read)
+      ∙ ap (λ version. option_map_or (λ (u : Transaction). response_size version u.ranges) (transaction_of seen h) 0) (version-seen s.runner s steady.runner)
+      ∙ ap (λ o. option_map_or (λ (u : Transaction). response_size (version_of s s.runner) u.ranges) o 0) seen-there
       ∙ sym (ap (response_length s) its.read ∙ ap (λ o. option_map_or (λ (u : Transaction). response_size (version_of s s.runner) u.ranges) o 0) its.is.there))
 
   -- ---- to another endpoint

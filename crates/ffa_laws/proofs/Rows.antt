@@ -12,7 +12,7 @@ use Rattle.ffa_model.specs.declared.operation.Outcome.TheVariants.{Data, Done}
 use Rattle.ffa_model.specs.declared.rights.Kind.{Kind}
 use Rattle.ffa_model.specs.declared.rights.Kind.TheVariants.{Share, Lend, Donate}
 use Rattle.ffa_model.specs.declared.call.Call as calls
-use Rattle.ffa_model.specs.declared.call.Call.TheVariants.{RxRelease, RxtxMap, RxtxUnmap, PartitionInfoGet, MsgWait, Yield, Run, DirectRequest, DirectResponse, MemDonate, MemLend, MemShare, MemRetrieve, MemRelinquish, MemReclaim, BitmapDestroy, NotificationBind, NotificationUnbind, NotificationSet, MsgSend2}
+use Rattle.ffa_model.specs.declared.call.Call.TheVariants.{RxRelease, RxtxMap, RxtxUnmap, PartitionInfoGet, MsgWait, Yield, Run, DirectRequest, DirectResponse, MemDonate, MemLend, MemShare, MemRetrieve, MemRelinquish, MemReclaim, BitmapDestroy, NotificationBind, NotificationUnbind, NotificationSet, MsgSend2, Version}
 use Rattle.ffa_model.specs.SendDescriptor.{SendRecord}
 use Rattle.ffa_model.specs.State.{State, Page, Transaction, transaction_of}
 use Rattle.ffa_model.specs.Access.{is_offered, is_receiver, ownership_of}
@@ -35,6 +35,7 @@ use Rattle.ffa_laws.specs.Public.{PublicPart, public_part, same_public}
 use Rattle.ffa_laws.specs.OwnAccess.{is_call}
 use Rattle.ffa_laws.specs.Silence.{may_be_told, may_change_public, may_tell}
 use Rattle.ffa_laws.proofs.Form.{accessed-kept, served-kept}
+use Rattle.ffa_laws.proofs.Versions.{version-leaves}
 use Rattle.ffa_laws.proofs.Publics.{told-of}
 
 -- ---- the public part
@@ -51,6 +52,7 @@ public-service s (MemDonate x) quiet = public-sent s Donate (send_read s Donate 
 public-service s (MemLend x) quiet = public-sent s Lend (send_read s Lend x.total)
 public-service s (MemShare x) quiet = public-sent s Share (send_read s Share x.total)
 public-service s MemRelinquish quiet = public-relinquished s (relinquish_read s)
+public-service s (Version word) quiet = version-leaves (λ t. public_part t ≡ public_part s) s.ffa s word refl (λ version. refl)
 public-service s RxRelease quiet = absurd (true≢false quiet)
 public-service s (RxtxMap tx rx pages) quiet = absurd (true≢false quiet)
 public-service s (RxtxUnmap endpoint) quiet = absurd (true≢false quiet)

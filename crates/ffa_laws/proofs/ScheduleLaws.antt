@@ -1,6 +1,6 @@
 -- SPDX-License-Identifier: MIT OR Apache-2.0
 -- Run states: run, wait, yield and direct messages, in the runner's view, and to others.
-use Rattle.std.proofs.Common.{◌≡◌, ◌∙◌, ℕ, suc, zero, true, false, List, [], ◌∷◌, length, get_or, set, Option, Some, None, refl, sym, ap, length-set, ◌==◌, ◌++◌}
+use Rattle.std.proofs.Common.{◌&&◌, ◌≡◌, ◌∙◌, ℕ, suc, zero, true, false, List, [], ◌∷◌, length, get_or, set, Option, Some, None, refl, sym, ap, length-set, ◌==◌, ◌++◌}
 use Rattle.std.proofs.lemmas.Bool.{and_parts, eqb-true, false≢true}
 use Rattle.ffa_model.specs.declared.call.DirectMessage.{DirectMessage}
 use Rattle.ffa_model.specs.declared.schedule.Status.{Status}
@@ -11,7 +11,7 @@ use Rattle.ffa_model.specs.Identifiers.{place}
 use Rattle.ffa_model.specs.State.{State, buffers_of, is_known_among}
 use Rattle.ffa_model.specs.Buffers.{buffers_with_rx}
 use Rattle.ffa_model.specs.Calls.{Service, first_failure}
-use Rattle.ffa_model.specs.RunStates.{Schedule, direct_request, direct_response, finished, given_cycles, is_answer, msg_wait, request_guards, requested, requester, response_guards, run_guards, run_partition, schedule_of, status_in, switched, with_schedule, work_in, yield_now}
+use Rattle.ffa_model.specs.RunStates.{Schedule, direct_request, direct_response, finished, given_cycles, is_endpoint, msg_wait, request_guards, requested, requester, response_guards, run_guards, run_partition, schedule_of, status_in, switched, with_schedule, work_in, yield_now}
 use Rattle.ffa_laws.specs.Steady.{IsSteady}
 use Rattle.ffa_laws.specs.View.{view}
 use Rattle.ffa_laws.specs.Events.{apply_all, public_change, switches}
@@ -95,9 +95,9 @@ module _ (s : State) (steady : IsSteady s) where
         requesters = requesters-set (Known s) s.works (place message.receiver.0) (Some (Request (record { 0 = s.runner }))) (λ by is. (let same : s.runner ≡ by = cc in ap (is_known_among (length s.parties)) (sym same) ∙ steady.runner)) steady.requesters;
       })
 
-  answers : (message : DirectMessage) (w : Option ℕ) → is_answer s.runner message w ≡ true → (by : ℕ) × (w ≡ Some by) × (message.receiver.0 ≡ by)
-  answers message None is = absurd (false≢true is)
-  answers message (Some by) is = (by, refl, eqb-true message.receiver.0 by (and_parts (message.sender.0 == s.runner) _ is).1)
+  answers : (message : DirectMessage) (w : Option ℕ) → (message.sender.0 == s.runner && is_endpoint message.receiver.0 w) ≡ true → (by : ℕ) × (w ≡ Some by) × (message.receiver.0 ≡ by)
+  answers message None is = absurd (false≢true (and_parts (message.sender.0 == s.runner) _ is).1)
+  answers message (Some by) is = (by, refl, sym (eqb-true by message.receiver.0 (and_parts (message.sender.0 == s.runner) _ is).1))
 
   pub steady-run : (target context : ℕ) → first_failure (run_guards (length s.parties) (schedule_of s) target context) ≡ None → IsSteady (run_partition s target context).state
   steady-run target context none =

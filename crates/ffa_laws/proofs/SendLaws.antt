@@ -16,7 +16,7 @@ use Rattle.ffa_model.specs.declared.transaction.Range.{Range}
 use Rattle.ffa_model.specs.declared.transaction.Receiver.{Receiver}
 use Rattle.ffa_model.specs.Identifiers.{identifier, place}
 use Rattle.ffa_model.specs.Lists.{listed, is_in_run}
-use Rattle.ffa_model.specs.State.{State, Page, Transaction, Buffers, buffers_of, is_known, owner_of, page_at, sent_by, transaction_of, version_of, own_right_of}
+use Rattle.ffa_model.specs.State.{State, Page, Transaction, Buffers, buffers_of, is_known, owner_of, page_at, sent_by, transaction_of, own_right_of}
 use Rattle.ffa_model.specs.Access.{handle_at, held_by, is_receiver, names, transaction_at, ownership_of, Ownership}
 use Rattle.ffa_model.specs.Rights.{may_store}
 use Rattle.ffa_model.specs.Memory.{zeroed_if}
@@ -52,6 +52,7 @@ use Rattle.ffa_laws.proofs.Sends.{counted}
 use Rattle.ffa_laws.proofs.Steadies.{alone-far, alone-near, own-alone}
 use Rattle.ffa_laws.proofs.Told.{IsTold}
 use Rattle.ffa_laws.proofs.Views.{kept_none, or_true, view-named, view-page}
+use Rattle.ffa_laws.proofs.Versions.{version-seen}
 use Rattle.ffa_model.specs.declared.refusal.Refusal.{Refusal}
 
 -- ---- what the guards say, where none fails
@@ -451,13 +452,16 @@ module _ (s : State) (steady : IsSteady s) (kind : Kind) (r : SendRecord) (good 
 -- ---- the calls
 pub own-send : (s : State) → IsSteady s → (kind : Kind) (x : Transfer) → IsOwn s (memory_send (view s.runner s) kind x) (memory_send s kind x)
 own-send s steady kind x = (
-  ap (λ b. first_failure (send_guards (scene_of (view s.runner s)) s.runner x (send_of kind (in_version (version_of s s.runner) (take x.total b))))) (tx-seen s steady) ∙ same-failure s steady x (send_read s kind x.total),
+  ap (λ d. first_failure (send_guards (scene_of (view s.runner s)) s.runner x (send_of kind d))) same-descriptor ∙ same-failure s steady x (send_read s kind x.total),
   λ none. (
-    ap (λ b. memory_sent (view s.runner s) kind (send_of kind (in_version (version_of s s.runner) (take x.total b)))) (tx-seen s steady) ∙ of (send_read s kind x.total) none,
+    ap (λ d. memory_sent (view s.runner s) kind (send_of kind d)) same-descriptor ∙ of (send_read s kind x.total) none,
     ap handle_reply (handle-seen s steady),
   ),
 )
   where
+    same-descriptor : descriptor_in (view s.runner s) x.total ≡ descriptor_in s x.total
+    same-descriptor = λ i. in_version (version-seen s.runner s steady.runner i) (take x.total (tx-seen s steady i))
+
     of : (o : Option SendRecord) → first_failure (send_guards (scene_of s) s.runner x o) ≡ None → memory_sent (view s.runner s) kind o ≡ view s.runner (memory_sent s kind o)
     of None none = absurd (no-offer s x none)
     of (Some r) none = own-state s steady kind r (offer s x r none)

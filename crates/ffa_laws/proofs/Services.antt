@@ -39,7 +39,8 @@ use Rattle.ffa_model.specs.Processors.{SameElsewhere}
 use Rattle.ffa_model.specs.SoundState.{IsSoundState}
 use Rattle.ffa_model.proofs.Guards.{guard-passes}
 use Rattle.ffa_laws.proofs.SoundBuffers.{filled-state-sound, map-sound, rx-sound, unmap-sound}
-use Rattle.ffa_laws.proofs.SoundKept.{schedule-sound}
+use Rattle.ffa_laws.proofs.SoundKept.{schedule-sound, version-sound}
+use Rattle.ffa_laws.proofs.Versions.{other-version, own-version, steady-version, version-leaves}
 use Rattle.ffa_laws.proofs.SoundLaws.{same-elsewhere}
 use Rattle.ffa_laws.proofs.SoundNotifications.{bind-sound, create-sound, destroy-sound, framework-sound, get-sound, set-sound, unbind-sound}
 use Rattle.ffa_laws.proofs.SoundPages.{informed-sound, sent-sound}
@@ -52,7 +53,7 @@ use Rattle.ffa_laws.proofs.SoundSteps.{AreSound, IsScheduled, scheduled-request,
 
 -- what an endpoint does is done alike in its view
 pub own-service : (s : State) → IsSteady s → (call : calls.Call) → IsOwn s (service (view s.runner s) call) (service s call)
-own-service s steady (Version version) = (refl, λ none. (refl, refl))
+own-service s steady (Version word) = own-version s steady word
 own-service s steady (Features function) = (refl, λ none. (refl, refl))
 own-service s steady RxRelease = own-release s steady
 own-service s steady (RxtxMap tx rx pages) = own-map s steady tx rx pages
@@ -83,7 +84,7 @@ own-service s steady Unknown = (refl, λ none. (refl, refl))
 -- another endpoint's view changes as it is told
 module _ (e : ℕ) (s : State) (steady : IsSteady s) (known : is_known s e ≡ true) (other : s.runner ≢ e) where
   pub other-service : (call : calls.Call) → IsTold e s (service s call) (told_by e s call)
-  other-service (Version version) = λ none. other-same e s
+  other-service (Version word) = λ none. other-version s steady word e other
   other-service (Features function) = λ none. other-same e s
   other-service RxRelease = λ none. other-release s steady e
   other-service (RxtxMap tx rx pages) = λ none. other-buffers s steady e known other (Some (new_buffers s.ram_base tx rx pages))
@@ -113,7 +114,7 @@ module _ (e : ℕ) (s : State) (steady : IsSteady s) (known : is_known s e ≡ t
 
 -- a steady state stays so
 pub steady-service : (s : State) → IsSteady s → (call : calls.Call) → first_failure (service s call).guards ≡ None → IsSteady (service s call).state
-steady-service s steady (Version version) none = steady
+steady-service s steady (Version word) none = steady-version s steady word
 steady-service s steady (Features function) none = steady
 steady-service s steady RxRelease none = steady-with_rx s steady s.runner false
 steady-service s steady (RxtxMap tx rx pages) none = steady-map s steady tx rx pages none
@@ -144,7 +145,7 @@ steady-service s steady Unknown none = steady
 -- what is told of a call is what it shows
 module _ (e : ℕ) (s : State) (differ : s.runner ≢ e) where
   pub shows-service : (call : calls.Call) → Shows e s differ (service s call) (told_by e s call)
-  shows-service (Version version) = quiet e s differ (service s (Version version)) (told_by e s (Version version)) refl refl
+  shows-service (Version word) = quiet e s differ (service s (Version word)) (told_by e s (Version word)) refl (version-leaves (λ t. schedule_of t ≡ schedule_of s) s.ffa s word refl (λ version. refl))
   shows-service (Features function) = quiet e s differ (service s (Features function)) (told_by e s (Features function)) refl refl
   shows-service RxRelease = quiet e s differ (service s RxRelease) (told_by e s RxRelease) refl refl
   shows-service (RxtxMap tx rx pages) = quiet e s differ (service s (RxtxMap tx rx pages)) (told_by e s (RxtxMap tx rx pages)) refl refl
@@ -189,7 +190,7 @@ module _ (s : State) (sound : IsSoundState s) where
       (guard-passes (send2_guards s.parties s.buffers s.runner (header_in (tx_bytes s s.runner))) 4 (sym none))
 
   pub sound-service : (call : calls.Call) → first_failure (service s call).guards ≡ None → IsSoundState (service s call).state
-  sound-service (Version version) none = sound
+  sound-service (Version word) none = version-leaves IsSoundState s.ffa s word sound (version-sound s sound s.runner)
   sound-service (Features function) none = sound
   sound-service RxRelease none = rx-sound s sound s.runner false
   sound-service (RxtxMap tx rx pages) none = map-sound s sound tx rx pages none
@@ -233,6 +234,7 @@ module _ (s : State) (sound : IsSoundState s) where
   pub elsewhere-service : (call : calls.Call) → first_failure (service s call).guards ≡ None → SameElsewhere (schedule_of s) (schedule_of (service s call).state)
   elsewhere-service MsgWait none = (scheduled-wait s scheduled none).next.elsewhere
   elsewhere-service Yield none = (scheduled-yield s scheduled none).next.elsewhere
+  elsewhere-service (Version word) none = version-leaves (λ t. SameElsewhere (schedule_of s) (schedule_of t)) s.ffa s word (same-elsewhere (schedule_of s)) (λ version. same-elsewhere (schedule_of s))
   elsewhere-service (Run target context) none = (scheduled-run s scheduled target.0 context none).next.elsewhere
   elsewhere-service (DirectRequest message) none = (scheduled-request s scheduled message none).next.elsewhere
   elsewhere-service (DirectResponse message) none = (scheduled-response s scheduled message none).next.elsewhere

@@ -1,13 +1,13 @@
 -- SPDX-License-Identifier: MIT OR Apache-2.0
 -- Partition information: in the runner's view, and to others.
-use Rattle.std.proofs.Common.{◌≡◌, ◌≢◌, ℕ, Bool, true, false, cond, List, [], ◌∷◌, length, is_some, refl, sym, ap, length-set, ◌||◌, not}
+use Rattle.std.proofs.Common.{◌≡◌, ◌≢◌, ◌∙◌, ℕ, Bool, true, false, cond, List, [], ◌∷◌, length, is_some, refl, sym, ap, length-set, ◌||◌, not}
 use Rattle.ffa_model.specs.Manifest.{is_nil}
 use Rattle.ffa_model.specs.Identifiers.{place}
 use Rattle.ffa_model.specs.State.{State, buffers_of, version_of}
 use Rattle.ffa_model.specs.Buffers.{buffers_with_rx, filled, filled_pages, is_full}
-use Rattle.ffa_model.specs.Calls.{first_failure}
+use Rattle.ffa_model.specs.Calls.{first_failure, success}
 use Rattle.ffa_model.specs.RunStates.{schedule_of}
-use Rattle.ffa_model.specs.Setup.{info_bytes, info_get, info_guards, informed, is_any, is_count_alone, selected, uuid_bytes}
+use Rattle.ffa_model.specs.Setup.{told_info_size, info_bytes, info_get, info_guards, informed, is_any, is_count_alone, selected, uuid_bytes}
 use Rattle.ffa_laws.specs.Steady.{IsSteady}
 use Rattle.ffa_laws.specs.View.{view}
 use Rattle.ffa_laws.specs.Events.{apply_all, public_change}
@@ -16,6 +16,7 @@ use Rattle.ffa_laws.proofs.Changes.{other-changed}
 use Rattle.ffa_laws.proofs.Written.{rewritten-filled, rx-own, with_rx_full}
 use Rattle.ffa_laws.proofs.Told.{other-same}
 use Rattle.ffa_laws.proofs.BufferLaws.{far-repaged, own-buffers, steady-filled, view-filled}
+use Rattle.ffa_laws.proofs.Versions.{version-seen}
 use Rattle.ffa_model.specs.declared.refusal.Refusal.TheVariants.{UuidUnknown, BuffersMissing, RxFull}
 
 module _ (s : State) (steady : IsSteady s) (words : List ℕ) (flags : ℕ) where
@@ -31,13 +32,20 @@ module _ (s : State) (steady : IsSteady s) (words : List ℕ) (flags : ℕ) wher
 
   view-informed : informed (view s.runner s) uuid flags ≡ view s.runner (informed s uuid flags)
   view-informed =
-      elim (is_count_alone flags) as (λ b. cond b (view s.runner s) (filled (view s.runner s) s.runner (info_bytes (version_of s s.runner) s.parties uuid)) ≡ view s.runner (cond b s (filled s s.runner (info_bytes (version_of s s.runner) s.parties uuid)))) [
+      ap (λ version. cond (is_count_alone flags) (view s.runner s) (filled (view s.runner s) s.runner (info_bytes version s.parties uuid))) (version-seen s.runner s steady.runner)
+      ∙ elim (is_count_alone flags) as (λ b. cond b (view s.runner s) (filled (view s.runner s) s.runner (info_bytes (version_of s s.runner) s.parties uuid)) ≡ view s.runner (cond b s (filled s s.runner (info_bytes (version_of s s.runner) s.parties uuid)))) [
         | true ↦ refl
         | false ↦ view-filled s.runner s (info_bytes (version_of s s.runner) s.parties uuid) steady.runner
       ]
 
   pub own-info : IsOwn s (info_get (view s.runner s) words flags) (info_get s words flags)
-  own-info = (ap first_failure same-guards, λ none. (view-informed, refl))
+  own-info = (
+    ap first_failure same-guards,
+    λ none. (
+      view-informed,
+      ap (λ version. success (length (selected s.parties uuid)) (cond (is_count_alone flags) 0 (told_info_size version))) (version-seen s.runner s steady.runner),
+    ),
+  )
 
   pub steady-info : IsSteady (informed s uuid flags)
   steady-info =

@@ -6,7 +6,7 @@ use Rattle.byteorder.specs.Endian.{little_bytes}
 use Rattle.ffa_model.specs.declared.endpoint.Endpoint.{Endpoint}
 use Rattle.ffa_model.specs.declared.manifest.Ffa.{Ffa}
 use Rattle.ffa_model.specs.declared.call.Call as calls
-use Rattle.ffa_model.specs.declared.call.Call.TheVariants.{DirectRequest, DirectResponse, MemDonate, MemLend, MemRelinquish, MemRetrieve, MemShare, MsgWait, PartitionInfoGet, Run, Yield}
+use Rattle.ffa_model.specs.declared.call.Call.TheVariants.{DirectRequest, DirectResponse, MemDonate, MemLend, MemRelinquish, MemRetrieve, MemShare, MsgWait, PartitionInfoGet, Run, Yield, Version}
 use Rattle.ffa_model.specs.declared.operation.Op.{Op}
 use Rattle.ffa_model.specs.declared.operation.Op.TheVariants.{Call, Load, Store, Fetch}
 use Rattle.ffa_model.specs.declared.operation.Outcome.TheVariants.{Data, Done}
@@ -30,6 +30,7 @@ use Rattle.ffa_model.specs.Step.{service, step}
 use Rattle.ffa_model.proofs.FirstChain.{first-waits}
 use Rattle.ffa_model.proofs.Places.{partition-place}
 use Rattle.ffa_laws.proofs.Form.{accessed-kept, served-kept}
+use Rattle.ffa_laws.proofs.Versions.{version-leaves}
 use Rattle.ffa_laws.proofs.Showing.{informed-runs, offered-runs, relinquished-runs, retrieved-runs}
 
 -- where an element gets another status, an element with this status had it before
@@ -96,6 +97,7 @@ module _ (s : State) (simple : IsSimple (schedule_of s)) where
 
   simple-service : (call : calls.Call) → IsSimple (schedule_of (service s call).state)
   simple-service MsgWait = simple-finished 0
+  simple-service (Version word) = version-leaves (λ t. IsSimple (schedule_of t)) s.ffa s word simple (λ version. simple)
   simple-service Yield = simple-switched c simple Yielded 0 yielded
   simple-service (Run target context) = simple-given target.0 (status_in c target.0)
   simple-service (DirectRequest message) =

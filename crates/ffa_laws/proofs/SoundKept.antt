@@ -1,10 +1,11 @@
 -- SPDX-License-Identifier: MIT OR Apache-2.0
 -- What keeps a state sound: its parts, one by one.
 use Rattle.ffa_model.specs.Access.{ownership_of}
-use Rattle.std.proofs.Common.{◌≡◌, ◌∙◌, ℕ, ◌+◌, ◌*◌, ◌%◌, ◌^◌, ◌<◌, ◌≤◌, true, List, length, get_or, Option, Some, None, refl, sym, subst, arith}
+use Rattle.std.proofs.Common.{◌≡◌, ◌∙◌, ℕ, ◌+◌, ◌*◌, ◌%◌, ◌^◌, ◌<◌, ◌≤◌, true, List, length, length-set, get_or, Option, Some, None, refl, sym, subst, arith}
 use Rattle.std.specs.FinSet as finite_set
 use Rattle.ffa_model.specs.Identifiers.{place}
-use Rattle.ffa_model.specs.State.{State, Page, Buffers, owner_of, page_at}
+use Rattle.ffa_model.specs.State.{State, Page, Buffers, owner_of, page_at, with_version}
+use Rattle.ffa_model.specs.declared.endpoint.Version.{Version}
 use Rattle.ffa_model.specs.RunStates.{Schedule, schedule_of, with_schedule}
 use Rattle.ffa_model.specs.Notifications.{Notifications, with_notifications}
 use Rattle.ffa_model.specs.Sound.{IsSound}
@@ -45,6 +46,7 @@ module _ (s : State) (sound : IsSoundState s) where
                 within = subst (λ n. s.ram_base + 4096 * n ≤ 2 ^ 32) (sym rewritten.each) sized.within;
                 one_table = subst (λ n. s.ram_base % 2 ^ 30 + 4096 * n ≤ 2 ^ 30) (sym rewritten.each) sized.one_table;
                 blocks = (sized.blocks.0, rewritten.each ∙ sized.blocks.1, sized.blocks.2, sized.blocks.3, sized.blocks.4);
+                versions = sized.versions;
                 sent = sized.sent;
                 buffers = each;
                 works = works;
@@ -88,7 +90,7 @@ module _ (s : State) (sound : IsSoundState s) where
   notifications-sound n bitmaps bound pending =
       let sized = sound.sized in
       record {
-        sized = record { some = sized.some; few = sized.few; base = sized.base; within = sized.within; one_table = sized.one_table; blocks = sized.blocks; sent = sized.sent; buffers = sized.buffers; works = sized.works; bitmaps = bitmaps };
+        sized = record { some = sized.some; few = sized.few; base = sized.base; within = sized.within; one_table = sized.one_table; blocks = sized.blocks; versions = sized.versions; sent = sized.sent; buffers = sized.buffers; works = sized.works; bitmaps = bitmaps };
         parties = sound.parties;
         pages = λ p page is. let good = sound.pages p page is in record { owner = good.owner; size = good.size; bytes = good.bytes };
         worlds = sound.worlds;
@@ -100,4 +102,23 @@ module _ (s : State) (sound : IsSoundState s) where
         schedule = sound.schedule;
         bound = bound;
         pending = pending;
+      }
+
+  -- another form of an endpoint
+  pub version-sound : (e : ℕ) (version : Version) → IsSoundState (with_version s e version)
+  version-sound e version =
+      let sized = sound.sized in
+      record {
+        sized = record { some = sized.some; few = sized.few; base = sized.base; within = sized.within; one_table = sized.one_table; blocks = sized.blocks; versions = length-set s.versions (place e) version ∙ sized.versions; sent = sized.sent; buffers = sized.buffers; works = sized.works; bitmaps = sized.bitmaps };
+        parties = sound.parties;
+        pages = λ p page is. let good = sound.pages p page is in record { owner = good.owner; size = good.size; bytes = good.bytes };
+        worlds = sound.worlds;
+        transactions = λ h t is. same-transaction s (with_version s e version) h t refl refl (λ p. refl) refl (omega arith) (sound.transactions h t is);
+        one = sound.one;
+        few = sound.few;
+        sent = sound.sent;
+        buffers = λ f b known is. let good = sound.buffers f b known is in record { count = good.count; tx = good.tx; rx = good.rx; apart = good.apart };
+        schedule = sound.schedule;
+        bound = λ entry is. let good = sound.bound entry is in record { receiver = good.receiver; bit = good.bit; sender = good.sender; is = good.is; to_known = good.to_known; from_known = good.from_known; in_word = good.in_word; bitmaps = good.bitmaps; alone = good.alone };
+        pending = λ entry is. let good = sound.pending entry is in record { receiver = good.receiver; class = good.class; bit = good.bit; is = good.is; to_known = good.to_known; of_class = good.of_class; in_word = good.in_word; bound = good.bound };
       }

@@ -12,7 +12,7 @@ use Rattle.ffa_model.specs.Identifiers.{identifier, place}
 use Rattle.ffa_model.specs.Lists.{listed}
 use Rattle.ffa_model.specs.State.{State}
 use Rattle.ffa_model.specs.Calls.{first_failure}
-use Rattle.ffa_model.specs.Notifications.{Notifications, bind_guards, binding, class_of_entry, class_of, destroy_guards, has_bitmaps_in, has_pending, is_bindable, is_bound, is_bound_to_another, is_pending, is_unbindable, manager_class, normal_class, notifications_of, partition_class, receiver_bit, receiver_of_entry, message_bits, sender_of_entry, set_guards, unbind_guards, with_bitmaps, with_bound, with_framework_bit, with_notifications, with_pending, without_bitmaps, without_bound, without_pending}
+use Rattle.ffa_model.specs.Notifications.{Notifications, bind_guards, binding, class_of_entry, class_of, destroy_guards, has_bitmaps_in, has_pending, is_bindable, is_bound, is_bound_to_another, is_pending, is_unbindable, manager_class, normal_class, notifications_of, partition_class, receiver_bit, receiver_of_entry, message_bits, sender_of_entry, set_guards, unbind_guards, with_bitmaps, with_bound, with_notifications, with_pending, without_bitmaps, without_bound, without_pending}
 use Rattle.ffa_model.specs.SoundState.{IsKnown, IsSoundBinding, IsSoundPending, IsSoundState}
 use Rattle.ffa_model.proofs.Guards.{guard-passes}
 use Rattle.ffa_model.proofs.NamedPages.{each-listed}
@@ -288,7 +288,7 @@ module _ (s : State) (sound : IsSoundState s) where
       all : list_all (is_bit (bound_to its.receiver.0)) (bits_of its.bitmap) ≡ true
       all = bits-pass (bound_to its.receiver.0) its.bitmap (guard-passes (set_guards (length s.parties) n s.runner its) 5 (sym none))
 
-  pub framework-sound : (f : ℕ) → IsKnown s f → IsSoundState (with_notifications s (with_framework_bit n f))
+  pub framework-sound : (f : ℕ) → IsKnown s f → IsSoundState (with_notifications s (with_pending n f manager_class message_bits))
   framework-sound f to = raised-sound f manager_class message_bits (λ x is.
       let (k, passes, same) = among-passed (λ k. k == 0) (receiver_bit f manager_class) message_bits x refl is in
       let first = eqb-true k 0 passes in

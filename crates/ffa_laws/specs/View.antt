@@ -7,6 +7,7 @@ use Rattle.std.specs.Ordering.{nat_cmp}
 use Rattle.std.specs.Option.{option_map}
 use Rattle.std.specs.FinMap as map
 use Rattle.std.specs.FinSet as finite_set
+use Rattle.ffa_model.specs.declared.endpoint.Version.TheVariants.{V1_1}
 use Rattle.ffa_model.specs.Numbers.{Identifier, PageIndex}
 use Rattle.ffa_model.specs.Lists.{map_at}
 use Rattle.ffa_model.specs.Identifiers.{identifier}
@@ -55,6 +56,8 @@ view e s =
       ram_base = s.ram_base;
       tables = s.tables;
       parties = s.parties;
+      ffa = s.ffa;
+      versions = map_at (λ i version. if identifier i == e then version else V1_1) s.versions;
       normal = s.normal;
       pages = map_at (λ p page. kept (is_near e s p) page) s.pages;
       transactions = transactions_of e s;

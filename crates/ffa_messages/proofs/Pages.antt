@@ -1,18 +1,14 @@
 -- SPDX-License-Identifier: MIT OR Apache-2.0
 -- The pages of buffers.
-use Rattle.std.proofs.Common.{◌≡◌, ◌∙◌, ℕ, zero, suc, ◌+◌, take, drop, subst, Bool, true, List, [], ◌∷◌, length, Option, None, Some, Result, Ok, Err, is_some, get_or, set, refl, sym, ap}
-use Rattle.std.specs.Option.{IsSomeAnd, option_map}
-use Rattle.std.specs.Result.{OnOk, OnErr}
-use Rattle.std.proofs.lemmas.List.{length-set}
+use Rattle.std.proofs.Common.{◌≡◌, ◌∙◌, ℕ, true, List, Option, None, Some, is_some, refl, sym, ap}
+use Rattle.std.specs.Option.{IsSomeAnd}
 use Rattle.std.proofs.lemmas.Bool.{false≢true}
-use Rattle.std.proofs.lemmas.Option.{none-some}
-use Rattle.ffa_model.specs.Buffers.{buffers_in, buffers_with, buffers_with_rx}
+use Rattle.ffa_model.specs.Buffers.{buffers_in}
 use Rattle.ffa_model.specs.Calls.{first_failure}
-use Rattle.ffa_model.specs.Identifiers.{place}
 use Rattle.ffa_model.specs.Messages.{header_in, send2_guards}
-use Rattle.ffa_model.specs.Ram.{Ram, page_of, with_bytes, with_page}
+use Rattle.ffa_model.specs.Ram.{Ram}
 use Rattle.ffa_model.specs.State.{Party, Buffers}
-use Rattle.ffa_rxtx.specs.Parts.{IsInRam, with_run, with_rx_bytes}
+use Rattle.ffa_rxtx.specs.Parts.{IsInRam}
 use Rattle.ffa_messages.specs.Parts.{AreEndsApart, AreInRam, IsBeside, receiver_in, sent_in}
 
 -- who has buffers has RX in RAM

@@ -10,9 +10,10 @@ use Rattle.ffa_model.specs.Buffers.{buffers_in, room_of}
 use Rattle.ffa_model.specs.Calls.{first_refusal}
 use Rattle.ffa_model.specs.Messages.{MessageHeader, header_in, send2_guards}
 use Rattle.ffa_model.specs.Ram.{Ram}
-use Rattle.ffa_model.specs.RunStates.{Schedule, is_answer, requester, response_guards, work_in}
+use Rattle.ffa_model.specs.RunStates.{Schedule, is_endpoint, requester, response_guards, work_in}
 use Rattle.ffa_model.specs.State.{Party, Buffers}
 use Rattle.ffa_rxtx.specs.Parts.{run_in, tx_in}
+use Rattle.std.proofs.lemmas.Bool.{eq-eqb, eqb-true}
 use Rattle.ffa_messages.specs.Parts.{ends_guards, header_guards, sent_in}
 
 -- of a response from the runner to the endpoint that asked the flags alone are left
@@ -20,8 +21,11 @@ pub refused-flags : (schedule : Schedule) (message : DirectMessage) (by : ℕ) (
     → (message.sender.0 == schedule.runner) ≡ true → (message.receiver.0 == by) ≡ true → unset ≡ (message.flags == 0)
     → (if unset then None else Some FlagsReserved) ≡ first_refusal (response_guards schedule message)
 refused-flags schedule message by unset asked from to is =
-    (λ i. first_refusal ((sym from i && sym to i, AnswerMisdirected) ∷ (is i, FlagsReserved) ∷ []))
-    ∙ (λ i. first_refusal ((is_some (asked i), NoRequest) ∷ (is_answer schedule.runner message (asked i), AnswerMisdirected) ∷ (message.flags == 0, FlagsReserved) ∷ []))
+    (λ i. first_refusal ((sym from i && sym back i, AnswerMisdirected) ∷ (is i, FlagsReserved) ∷ []))
+    ∙ (λ i. first_refusal ((is_some (asked i), NoRequest) ∷ (message.sender.0 == schedule.runner && is_endpoint message.receiver.0 (asked i), AnswerMisdirected) ∷ (message.flags == 0, FlagsReserved) ∷ []))
+  where
+    back : (by == message.receiver.0) ≡ true
+    back = eq-eqb by message.receiver.0 (sym (eqb-true message.receiver.0 by to))
 
 -- guards in two parts
 refusal-append : (guards more : List (Bool × Refusal)) → first_refusal (guards ++ more) ≡ option_or (first_refusal guards) (first_refusal more)

@@ -101,6 +101,7 @@ module _ (ffa : Ffa) (base tables blocks : ℕ) (es : List Endpoint) (held : ℕ
         within = (let size = length-listed (512 * blocks) (λ p. page_with_bytes base es p (held p)) in let end = facts.within in omega (arith, size, end));
         one_table = (let size = length-listed (512 * blocks) (λ p. page_with_bytes base es p (held p)) in let end = facts.one_table in omega (arith, size, end));
         blocks = (blocks, length-listed (512 * blocks) (λ p. page_with_bytes base es p (held p)), facts.some_blocks, facts.few_blocks, subst (λ n. has_tables tables blocks n ≡ true) (sym (length-map es party_of)) has-tables);
+        versions = length-map es (λ e. e.version) ∙ sym (length-map es party_of);
         sent = length-replicate {A = ℕ} (length es) 0 ∙ sym (length-map es party_of);
         buffers = length-replicate {A = Option Buffers} (length es) None ∙ sym (length-map es party_of);
         works = length-replicate {A = Option Work} (length es) None ∙ sym (length-map es party_of);

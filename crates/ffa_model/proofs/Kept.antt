@@ -128,6 +128,7 @@ module _ (s : State) (ranges : List Range) where
               within = subst (λ n. s.ram_base + 4096 * n ≤ 2 ^ 32) (sym zeros-size) sound.sized.within;
               one_table = subst (λ n. s.ram_base % 2 ^ 30 + 4096 * n ≤ 2 ^ 30) (sym zeros-size) sound.sized.one_table;
               blocks = (blocks.0, zeros-size ∙ blocks.1, blocks.2, blocks.3, blocks.4);
+              versions = sound.sized.versions;
               sent = sound.sized.sent;
               buffers = sound.sized.buffers;
               works = sound.sized.works;
@@ -188,7 +189,7 @@ module _ (s : State) (sound : IsSoundState s) (h : ℕ) (t : Transaction) (was :
   pub closed-sound : IsSoundState after
   closed-sound =
       record {
-        sized = record { some = sound.sized.some; few = sound.sized.few; base = sound.sized.base; within = sound.sized.within; one_table = sound.sized.one_table; blocks = sound.sized.blocks; sent = sound.sized.sent; buffers = sound.sized.buffers; works = sound.sized.works; bitmaps = sound.sized.bitmaps };
+        sized = record { some = sound.sized.some; few = sound.sized.few; base = sound.sized.base; within = sound.sized.within; one_table = sound.sized.one_table; blocks = sound.sized.blocks; versions = sound.sized.versions; sent = sound.sized.sent; buffers = sound.sized.buffers; works = sound.sized.works; bitmaps = sound.sized.bitmaps };
         parties = sound.parties;
         pages = λ p page is. let good = sound.pages p page is in record { owner = good.owner; size = good.size; bytes = good.bytes };
         worlds = sound.worlds;
@@ -274,7 +275,7 @@ module _ (s : State) (sound : IsSoundState s) (h : ℕ) (t : Transaction) (was :
   pub changed-sound : IsSoundState after_change
   changed-sound =
       record {
-        sized = record { some = sound.sized.some; few = sound.sized.few; base = sound.sized.base; within = sound.sized.within; one_table = sound.sized.one_table; blocks = sound.sized.blocks; sent = sound.sized.sent; buffers = sound.sized.buffers; works = sound.sized.works; bitmaps = sound.sized.bitmaps };
+        sized = record { some = sound.sized.some; few = sound.sized.few; base = sound.sized.base; within = sound.sized.within; one_table = sound.sized.one_table; blocks = sound.sized.blocks; versions = sound.sized.versions; sent = sound.sized.sent; buffers = sound.sized.buffers; works = sound.sized.works; bitmaps = sound.sized.bitmaps };
         parties = sound.parties;
         pages = λ p page is. let good = sound.pages p page is in record { owner = good.owner; size = good.size; bytes = good.bytes };
         worlds = sound.worlds;

@@ -141,7 +141,7 @@ module _ (s : State) (sound : IsSoundState s) (ranges : List Range) (e : ℕ) (r
   given-sound =
       let blocks = sound.sized.blocks in
       record {
-        sized = record { some = sound.sized.some; few = sound.sized.few; base = sound.sized.base; within = subst (λ n. s.ram_base + 4096 * n ≤ 2 ^ 32) (sym size) sound.sized.within; one_table = subst (λ n. s.ram_base % 2 ^ 30 + 4096 * n ≤ 2 ^ 30) (sym size) sound.sized.one_table; blocks = (blocks.0, size ∙ blocks.1, blocks.2, blocks.3, blocks.4); sent = sound.sized.sent; buffers = sound.sized.buffers; works = sound.sized.works; bitmaps = sound.sized.bitmaps };
+        sized = record { some = sound.sized.some; few = sound.sized.few; base = sound.sized.base; within = subst (λ n. s.ram_base + 4096 * n ≤ 2 ^ 32) (sym size) sound.sized.within; one_table = subst (λ n. s.ram_base % 2 ^ 30 + 4096 * n ≤ 2 ^ 30) (sym size) sound.sized.one_table; blocks = (blocks.0, size ∙ blocks.1, blocks.2, blocks.3, blocks.4); versions = sound.sized.versions; sent = sound.sized.sent; buffers = sound.sized.buffers; works = sound.sized.works; bitmaps = sound.sized.bitmaps };
         parties = sound.parties;
         pages = given-pages;
         worlds = given-worlds;

@@ -179,7 +179,7 @@ module _ (s : State) (sound : IsSoundState s) (t : Transaction) (good : IsSendab
   pub opened-sound : IsSoundState after_send
   opened-sound =
       record {
-        sized = record { some = sound.sized.some; few = sound.sized.few; base = sound.sized.base; within = sound.sized.within; one_table = sound.sized.one_table; blocks = sound.sized.blocks; sent = length-set s.sent (place t.sender) (sent_by s t.sender + 1) ∙ sound.sized.sent; buffers = sound.sized.buffers; works = sound.sized.works; bitmaps = sound.sized.bitmaps };
+        sized = record { some = sound.sized.some; few = sound.sized.few; base = sound.sized.base; within = sound.sized.within; one_table = sound.sized.one_table; blocks = sound.sized.blocks; versions = sound.sized.versions; sent = length-set s.sent (place t.sender) (sent_by s t.sender + 1) ∙ sound.sized.sent; buffers = sound.sized.buffers; works = sound.sized.works; bitmaps = sound.sized.bitmaps };
         parties = sound.parties;
         pages = λ p page is. let good = sound.pages p page is in record { owner = good.owner; size = good.size; bytes = good.bytes };
         worlds = sound.worlds;

@@ -24,6 +24,9 @@ use Rattle.ffa_model.specs.Refusals.{is_error, passes_no_error}
 use Rattle.ffa_model.specs.Registers.{Function, called, decode, function_of, functions, is_form_of, is_function, low, transfer, wide_of}
 use Rattle.ffa_model.specs.Rows.{Row, is_row_of, is_wide, row_of, rows}
 use Rattle.ffa_model.specs.RunStates.{run_reply, schedule_of, status_in}
+use Rattle.ffa_model.specs.declared.manifest.Ffa.{Ffa}
+use Rattle.ffa_model.specs.declared.manifest.Ffa.TheVariants as served
+use Rattle.ffa_model.specs.Setup.{version_answer}
 use Rattle.ffa_model.specs.State.{State, buffers_of}
 use Rattle.ffa_model.specs.Step.{service}
 use Rattle.ffa_model.specs.Transactions.{open_of, scene_of}
@@ -37,6 +40,10 @@ run-no-error target _ = refl
 version-no-error : (known : Bool) → is_error (cond known (replies.Version 0x10001) (replies.Version 0xFFFFFFFF)) ≡ false
 version-no-error true = refl
 version-no-error false = refl
+
+answer-no-error : (ffa : Ffa) (s : State) (word : ℕ) → is_error (version_answer ffa s word) ≡ false
+answer-no-error served.V1_1 s word = version-no-error _
+answer-no-error served.V1_2 s word = version-no-error _
 
 feature-no-error : (properties : ℕ) (served : Bool) → first_failure ((served, FunctionUnknown) ∷ []) ≡ None → is_error (cond served (success properties 0) (Error NotSupported)) ≡ false
 feature-no-error properties true none = refl
@@ -75,7 +82,7 @@ a ▸ b = (a, b)
 
 functions-served : AreServed functions rows
 functions-served =
-    (λ w x form. refl, λ w x. refl, λ s w x. (0, refl), λ s w x named none. version-no-error _, λ w x narrow. tt)
+    (λ w x form. refl, λ w x. refl, λ s w x. (0, refl), λ s w x named none. answer-no-error s.ffa s (w 1), λ w x narrow. tt)
     ▸ (λ w x form. refl, λ w x. refl, λ s w x. (0, refl), λ s w x named none. feature-no-error _ (is_function (w 1)) none, λ w x narrow. tt)
     ▸ (λ w x form. refl, λ w x. refl, λ s w x. (0, refl), λ s w x named none. refl, λ w x narrow. tt)
     ▸ (λ w x form. refl, λ w x. refl, λ s w x. (0, refl), λ s w x named none. refl, λ w x narrow. tt)

@@ -10,6 +10,8 @@ use Rattle.std.specs.FinSet as finite_set
 use Rattle.std.specs.Coded.{Coded, code_by, coded×, coded_ℕ, coded_bool, coded_list, coded_option}
 use Rattle.ffa_model.specs.declared.endpoint.Region.{Region}
 use Rattle.ffa_model.specs.declared.endpoint.Version.{Version}
+use Rattle.ffa_model.specs.declared.manifest.Ffa.{Ffa}
+use Rattle.ffa_model.specs.declared.manifest.Ffa.TheVariants as served
 use Rattle.ffa_model.specs.declared.endpoint.Version.TheVariants.{Compact, V1_1}
 use Rattle.ffa_model.specs.declared.rights.Data.{Data}
 use Rattle.ffa_model.specs.declared.rights.Data.TheVariants.{Ro, Rw}
@@ -109,10 +111,24 @@ version_from-is_compact V1_1 = refl
 abbrev pub coded_version : Coded Version
 coded_version = code_by Bool coded_bool is_compact version_from version_from-is_compact
 
+abbrev pub serves_1_1 : Ffa → Bool
+serves_1_1 served.V1_1 = true
+serves_1_1 served.V1_2 = false
+
+abbrev pub ffa_from : Bool → Ffa
+ffa_from true = served.V1_1
+ffa_from false = served.V1_2
+
+abbrev pub ffa_from-serves : (f : Ffa) → ffa_from (serves_1_1 f) ≡ f
+ffa_from-serves served.V1_1 = refl
+ffa_from-serves served.V1_2 = refl
+
+abbrev pub coded_ffa : Coded Ffa
+coded_ffa = code_by Bool coded_bool serves_1_1 ffa_from ffa_from-serves
+
 abbrev pub coded_party : Coded Party
 coded_party =
-    code_by (Version × (List ℕ × ℕ)) (coded× coded_version (coded× (coded_list coded_ℕ) coded_ℕ)) (λ p. (p.version, (p.uuid, p.properties)))
-    (λ p. record { version = p.0; uuid = p.1.0; properties = p.1.1 }) (λ _. refl)
+    code_by (List ℕ × ℕ) (coded× (coded_list coded_ℕ) coded_ℕ) (λ p. (p.uuid, p.properties)) (λ p. record { uuid = p.0; properties = p.1 }) (λ _. refl)
 
 abbrev pub coded_page : Coded Page
 coded_page =
@@ -150,9 +166,9 @@ coded_bits = finite_set.code (coded_list coded_ℕ)
 
 abbrev pub coded_state : Coded State
 coded_state =
-    code_by (ℕ × (ℕ × (List Party × (Option (List Region) × (List (Option Page) × (map.FinMap nat_cmp Transaction × (List ℕ × (List (Option Buffers) × (ℕ × (List Status × (List (Option Work) × (List Bool × (finite_set.FinSet (slice_cmp nat_cmp) × finite_set.FinSet (slice_cmp nat_cmp))))))))))))))
-    (coded× coded_ℕ (coded× coded_ℕ (coded× (coded_list coded_party) (coded× (coded_option (coded_list coded_region)) (coded× (coded_list (coded_option coded_page)) (coded× (map.code coded_ℕ coded_transaction) (coded× (coded_list coded_ℕ) (coded× (coded_list (coded_option coded_buffers)) (coded× coded_ℕ (coded× (coded_list coded_status) (coded× (coded_list (coded_option coded_work)) (coded× (coded_list coded_bool) (coded× coded_bits coded_bits)))))))))))))
-    (λ s. (s.ram_base, (s.tables, (s.parties, (s.normal, (s.pages, (s.transactions, (s.sent, (s.buffers, (s.runner, (s.statuses, (s.works, (s.bitmaps, (s.bound, s.pending))))))))))))))
+    code_by (ℕ × (ℕ × (List Party × (Option (List Region) × (List (Option Page) × (map.FinMap nat_cmp Transaction × (List ℕ × (List (Option Buffers) × (ℕ × (List Status × (List (Option Work) × (List Bool × (finite_set.FinSet (slice_cmp nat_cmp) × (finite_set.FinSet (slice_cmp nat_cmp) × (Ffa × List Version)))))))))))))))
+    (coded× coded_ℕ (coded× coded_ℕ (coded× (coded_list coded_party) (coded× (coded_option (coded_list coded_region)) (coded× (coded_list (coded_option coded_page)) (coded× (map.code coded_ℕ coded_transaction) (coded× (coded_list coded_ℕ) (coded× (coded_list (coded_option coded_buffers)) (coded× coded_ℕ (coded× (coded_list coded_status) (coded× (coded_list (coded_option coded_work)) (coded× (coded_list coded_bool) (coded× coded_bits (coded× coded_bits (coded× coded_ffa (coded_list coded_version))))))))))))))))
+    (λ s. (s.ram_base, (s.tables, (s.parties, (s.normal, (s.pages, (s.transactions, (s.sent, (s.buffers, (s.runner, (s.statuses, (s.works, (s.bitmaps, (s.bound, (s.pending, (s.ffa, s.versions))))))))))))))))
     (λ p. record {
       ram_base = p.0;
       tables = p.1.0;
@@ -167,7 +183,9 @@ coded_state =
       works = p.1.1.1.1.1.1.1.1.1.1.0;
       bitmaps = p.1.1.1.1.1.1.1.1.1.1.1.0;
       bound = p.1.1.1.1.1.1.1.1.1.1.1.1.0;
-      pending = p.1.1.1.1.1.1.1.1.1.1.1.1.1;
+      pending = p.1.1.1.1.1.1.1.1.1.1.1.1.1.0;
+      ffa = p.1.1.1.1.1.1.1.1.1.1.1.1.1.1.0;
+      versions = p.1.1.1.1.1.1.1.1.1.1.1.1.1.1.1;
     })
     (λ _. refl)
 

@@ -17,7 +17,7 @@ use Rattle.ffa_model.specs.Regions.{has_page, normal_of, owned_regions, regions_
 use Rattle.ffa_model.specs.State.{State, Page, Party}
 
 abbrev pub party_of : Endpoint → Party
-party_of e = record { version = e.version; uuid = e.uuid; properties = e.properties.0 }
+party_of e = record { uuid = e.uuid; properties = e.properties.0 }
 
 -- a page of a region belongs to the region's endpoint, with the region's right as base; all others are the manager's
 abbrev pub page_with_bytes : ℕ → List Endpoint → PageIndex → List ℕ → Option Page
@@ -41,6 +41,8 @@ first ffa base tables blocks es =
       ram_base = base;
       tables = tables;
       parties = map party_of es;
+      ffa = ffa;
+      versions = map (λ e. e.version) es;
       normal = normal_of ffa (regions_at es 0);
       pages = listed (512 * blocks) (λ p. page_with_bytes base es p (replicate 4096 0));
       transactions = map_of.empty;

@@ -115,9 +115,6 @@ without_bitmaps n e =
 abbrev pub message_bits : List ℕ
 message_bits = 0 ∷ []
 
-abbrev pub with_framework_bit : Notifications → Identifier → Notifications
-with_framework_bit n receiver = with_pending n receiver manager_class message_bits
-
 -- the checks of each call in order, by a caller among this many endpoints
 
 -- FFA_NOTIFICATION_BITMAP_CREATE, for an endpoint with so many execution contexts

@@ -110,16 +110,11 @@ request_guards parties schedule message =
     ∷ (is_waiting (status_in schedule message.receiver.0), ReceiverNotWaiting)
     ∷ []
 
--- whether a message goes from the runner to the endpoint whose request it answers
-abbrev pub is_answer : Identifier → DirectMessage → Option ℕ → Bool
-is_answer runner message None = false
-is_answer runner message (Some by) = message.sender.0 == runner && message.receiver.0 == by
-
 -- FFA_MSG_SEND_DIRECT_RESP
 abbrev pub response_guards : Schedule → DirectMessage → List (Bool × Refusal)
 response_guards schedule message =
     (is_some (requester (work_in schedule schedule.runner)), NoRequest)
-    ∷ (is_answer schedule.runner message (requester (work_in schedule schedule.runner)), AnswerMisdirected)
+    ∷ (message.sender.0 == schedule.runner && is_endpoint message.receiver.0 (requester (work_in schedule schedule.runner)), AnswerMisdirected)
     ∷ (message.flags == 0, FlagsReserved)
     ∷ []
 
@@ -149,12 +144,6 @@ scheduled function partition = Scheduled function (record { 0 = partition })
 abbrev pub run_reply : Identifier → Status → Reply
 run_reply target Waiting = scheduled FFA_RUN target
 run_reply target status = success 0 0
-
-abbrev pub wait_reply : Identifier → Reply
-wait_reply runner = scheduled FFA_MSG_WAIT runner
-
-abbrev pub yield_reply : Identifier → Reply
-yield_reply runner = scheduled FFA_YIELD runner
 
 -- ON A STATE
 abbrev pub schedule_of : State → Schedule
@@ -194,7 +183,7 @@ msg_wait s =
     record {
       guards = wait_guards (schedule_of s);
       state = with_rx (with_schedule s (finished (schedule_of s) 0)) s.runner false;
-      reply = wait_reply s.runner;
+      reply = scheduled FFA_MSG_WAIT s.runner;
     }
 
 abbrev pub yield_now : State → Service
@@ -202,5 +191,5 @@ yield_now s =
     record {
       guards = yield_guards (schedule_of s);
       state = with_schedule s (switched (schedule_of s) Yielded 0);
-      reply = yield_reply s.runner;
+      reply = scheduled FFA_YIELD s.runner;
     }

@@ -1,28 +1,58 @@
 -- SPDX-License-Identifier: MIT OR Apache-2.0
 -- Version, features, identifiers and partition information (DEN0077A, 13).
 use Rattle.byteorder.specs.Endian.{little_bytes}
-use Rattle.std.specs.Prelude.{ℕ, ◌+◌, ◌==◌, Bool, true, false, not, ◌&&◌, ◌||◌, List, [], ◌∷◌, ◌++◌, length, replicate, is_some, if◌then◌else◌}
+use Rattle.std.specs.Prelude.{ℕ, ◌+◌, ◌==◌, Bool, true, false, not, ◌&&◌, ◌||◌, List, [], ◌∷◌, ◌++◌, length, replicate, is_none, is_some, if◌then◌else◌}
 use Rattle.std.specs.Str.{bytes_eq}
 use Rattle.std.specs.List.{filter, flat_map, enumerate_from}
 use Rattle.ffa_model.specs.declared.function.TheConstants.{FFA_MEM_RETRIEVE_REQ, FFA_MEM_RETRIEVE_REQ_64}
 use Rattle.ffa_model.specs.declared.endpoint.Version as versions
 use Rattle.ffa_model.specs.declared.endpoint.Version.TheVariants.{Compact, V1_1}
+use Rattle.ffa_model.specs.declared.manifest.Ffa.{Ffa}
+use Rattle.ffa_model.specs.declared.manifest.Ffa.TheVariants as served
 use Rattle.ffa_model.specs.declared.operation.ErrorCode.TheVariants.{NotSupported}
 use Rattle.ffa_model.specs.declared.refusal.Refusal.{Refusal}
 use Rattle.ffa_model.specs.declared.refusal.Refusal.TheVariants.{FunctionUnknown, UuidUnknown, BuffersMissing, RxFull}
 use Rattle.ffa_model.specs.declared.call.Reply.{Reply}
 use Rattle.ffa_model.specs.declared.call.Reply.TheVariants.{Version, Error}
 use Rattle.ffa_model.specs.Bits.{bits, is_set}
-use Rattle.ffa_model.specs.Identifiers.{manager, identifier}
+use Rattle.ffa_model.specs.Identifiers.{identifier}
 use Rattle.ffa_model.specs.Manifest.{is_nil}
 use Rattle.ffa_model.specs.Registers.{is_function}
-use Rattle.ffa_model.specs.State.{State, Party, buffers_of, version_of}
+use Rattle.ffa_model.specs.State.{State, Party, buffers_of, version_of, with_version}
 use Rattle.ffa_model.specs.Buffers.{filled, is_full}
 use Rattle.ffa_model.specs.Calls.{Service, replying, success}
 
 abbrev pub version_reply : ℕ → Reply
 version_reply version =
     if not (is_set 31 version) && bits 30 16 version == 1 then Version 0x10001 else Version 0xFFFFFFFF
+
+-- the form in which a caller of the version that a word names writes and reads
+abbrev pub form_of : ℕ → versions.Version
+form_of word = if bits 15 0 word == 0 then Compact else V1_1
+
+abbrev pub is_form : versions.Version → versions.Version → Bool
+is_form Compact Compact = true
+is_form V1_1 V1_1 = true
+is_form version other = false
+
+-- whether FFA_VERSION with this word is served: the major number is 1, and a caller with buffers names the form that it has
+abbrev pub is_served_version : State → ℕ → Bool
+is_served_version s word =
+    not (is_set 31 word) && bits 30 16 word == 1
+    && (is_none (buffers_of s s.runner) || is_form (form_of word) (version_of s s.runner))
+
+-- a machine of FF-A 1.1 keeps nothing; one of FF-A 1.2 keeps the form of the version that the caller names
+abbrev pub version_kept : Ffa → State → ℕ → State
+version_kept served.V1_1 s word = s
+version_kept served.V1_2 s word = if is_served_version s word then with_version s s.runner (form_of word) else s
+
+abbrev pub version_answer : Ffa → State → ℕ → Reply
+version_answer served.V1_1 s word = version_reply word
+version_answer served.V1_2 s word = if is_served_version s word then Version 0x10001 else Version 0xFFFFFFFF
+
+-- FFA_VERSION (DEN0077A, 13.2)
+abbrev pub ffa_version : State → ℕ → Service
+ffa_version s word = record { guards = []; state = version_kept s.ffa s word; reply = version_answer s.ffa s word }
 
 -- bit 1 of what is told of FFA_MEM_RETRIEVE_REQ says that its response tells non-secure memory
 abbrev pub feature_properties : Bool → ℕ → ℕ
@@ -37,12 +67,6 @@ features_guards function = (is_function function, FunctionUnknown) ∷ []
 
 abbrev pub features : State → ℕ → Service
 features s function = record (replying s (features_reply (is_some s.normal) function)) { guards = features_guards function }
-
-abbrev pub id_reply : State → Reply
-id_reply s = success s.runner 0
-
-abbrev pub spm_id_reply : Reply
-spm_id_reply = success manager 0
 
 -- the 16 bytes that four registers hold
 abbrev pub uuid_bytes : List ℕ → List ℕ

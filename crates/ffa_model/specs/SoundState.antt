@@ -112,6 +112,7 @@ pub record IsSized (s : State) : Type 0 where
   pub blocks :
       (n : ℕ) × (length s.pages ≡ 512 * n) × (1 ≤ n) × (n ≤ MOST_BLOCKS)
       × (has_tables s.tables n (length s.parties) ≡ true)
+  pub versions : length s.versions ≡ length s.parties
   pub sent : length s.sent ≡ length s.parties
   pub buffers : length s.buffers ≡ length s.parties
   pub works : length s.works ≡ length s.parties

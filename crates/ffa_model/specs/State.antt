@@ -1,6 +1,6 @@
 -- SPDX-License-Identifier: MIT OR Apache-2.0
 -- The state of the small machine: maps, sets and lists by page or endpoint, and no table, slot or stack.
-use Rattle.std.specs.Prelude.{ℕ, ◌+◌, ◌*◌, ◌==◌, Bool, ◌&&◌, ◌||◌, nat_lt, List, length, Option, None, slice_index, slice_index_or, slice_get}
+use Rattle.std.specs.Prelude.{ℕ, ◌+◌, ◌*◌, ◌==◌, Bool, ◌&&◌, ◌||◌, nat_lt, List, length, Option, None, slice_index, slice_index_or, slice_get, slice_set}
 use Rattle.std.specs.Ordering.{nat_cmp}
 use Rattle.std.specs.Cmp.Lexicographic.{slice_cmp}
 use Rattle.std.specs.Option.{option_map, option_map_or}
@@ -9,6 +9,7 @@ use Rattle.std.specs.FinSet as finite_set
 use Rattle.ffa_model.specs.declared.endpoint.Version.{Version}
 use Rattle.ffa_model.specs.declared.endpoint.Version.TheVariants.{V1_1}
 use Rattle.ffa_model.specs.declared.endpoint.Region.{Region}
+use Rattle.ffa_model.specs.declared.manifest.Ffa.{Ffa}
 use Rattle.ffa_model.specs.declared.rights.Rights.{Rights}
 use Rattle.ffa_model.specs.declared.rights.Kind.{Kind}
 use Rattle.ffa_model.specs.declared.transaction.Range.{Range}
@@ -22,7 +23,6 @@ use Rattle.ffa_model.specs.Lists.{listed}
 
 -- what the manifest says of an endpoint for good
 pub record Party : Type 0 where
-  pub version : Version
   pub uuid : List ℕ
   pub properties : ℕ
 
@@ -56,6 +56,8 @@ pub record State : Type 0 where
   pub ram_base : ℕ
   pub tables : PageIndex  -- the first page of the tables
   pub parties : List Party  -- by endpoint
+  pub ffa : Ffa  -- the version of FF-A that the machine serves, for good
+  pub versions : List Version  -- by endpoint, the form in which it writes and reads
   pub normal : Option (List Region)  -- of non-secure memory, where worlds are told apart
   pub pages : List (Option Page)  -- by page; None is a page of the manager
   pub transactions : map.FinMap nat_cmp Transaction  -- by handle
@@ -86,11 +88,11 @@ abbrev pub properties_among : List Party → Identifier → ℕ
 properties_among parties e = option_map_or (λ (p : Party). p.properties) (slice_get parties (place e)) 0
 
 -- the form in which e writes and reads descriptors
-abbrev pub version_among : List Party → Identifier → Version
-version_among parties e = option_map_or (λ (p : Party). p.version) (slice_get parties (place e)) V1_1
-
 abbrev pub version_of : State → Identifier → Version
-version_of s e = version_among s.parties e
+version_of s e = slice_index_or s.versions (place e) V1_1
+
+abbrev pub with_version : State → Identifier → Version → State
+with_version s e version = record s { versions = slice_set s.versions (place e) version }
 
 abbrev pub has_property : List Party → Identifier → Bit → Bool
 has_property parties e bit = is_set bit (properties_among parties e)

@@ -12,9 +12,10 @@ use Rattle.ffa_model.specs.declared.call.Call as calls
 use Rattle.ffa_model.specs.declared.call.Call.TheVariants.{Version, Features, RxRelease, RxtxMap, RxtxUnmap, PartitionInfoGet, IdGet, MsgWait, Yield, Run, DirectRequest, DirectResponse, MemDonate, MemLend, MemShare, MemRetrieve, MemRelinquish, MemReclaim, BitmapCreate, BitmapDestroy, NotificationBind, NotificationUnbind, NotificationSet, NotificationGet, SpmIdGet, MsgSend2, Unknown}
 use Rattle.ffa_model.specs.State.{State}
 use Rattle.ffa_model.specs.Registers.{decode}
-use Rattle.ffa_model.specs.Calls.{Service, Stepped, replying, served}
+use Rattle.ffa_model.specs.Calls.{Service, Stepped, replying, served, success}
+use Rattle.ffa_model.specs.Identifiers.{manager}
 use Rattle.ffa_model.specs.Memory.{load, store, fetch}
-use Rattle.ffa_model.specs.Setup.{version_reply, features, id_reply, spm_id_reply, info_get}
+use Rattle.ffa_model.specs.Setup.{ffa_version, features, info_get}
 use Rattle.ffa_model.specs.Buffers.{rxtx_map, rxtx_unmap, rx_release}
 use Rattle.ffa_model.specs.RunStates.{direct_request, direct_response, run_partition, msg_wait, yield_now}
 use Rattle.ffa_model.specs.Messages.{msg_send2}
@@ -23,19 +24,16 @@ use Rattle.ffa_model.specs.MemoryRetrieve.{memory_retrieve}
 use Rattle.ffa_model.specs.MemoryReturn.{memory_relinquish, memory_reclaim}
 use Rattle.ffa_model.specs.Notifications.{bitmap_create, bitmap_destroy, notification_bind, notification_unbind, notification_set, notification_get}
 
-abbrev pub not_supported : State → Service
-not_supported s = record (replying s (Error NotSupported)) { guards = (false, FunctionUnknown) ∷ [] }
-
 -- each call of the runner; what is no call, or isn't served, is not supported
 abbrev pub service : State → calls.Call → Service
-service s (Version version) = replying s (version_reply version)
+service s (Version word) = ffa_version s word
 service s (Features function) = features s function
 service s RxRelease = rx_release s
 service s (RxtxMap tx rx pages) = rxtx_map s tx rx pages
 service s (RxtxUnmap endpoint) = rxtx_unmap s endpoint
 service s (PartitionInfoGet uuid flags) = info_get s uuid flags
-service s IdGet = replying s (id_reply s)
-service s SpmIdGet = replying s spm_id_reply
+service s IdGet = replying s (success s.runner 0)
+service s SpmIdGet = replying s (success manager 0)
 service s MsgWait = msg_wait s
 service s Yield = yield_now s
 service s (Run target context) = run_partition s target.0 context
@@ -54,7 +52,7 @@ service s (NotificationUnbind its) = notification_unbind s its
 service s (NotificationSet its) = notification_set s its
 service s (NotificationGet receiver context flags) = notification_get s receiver.0 context flags
 service s MsgSend2 = msg_send2 s
-service s Unknown = not_supported s
+service s Unknown = record (replying s (Error NotSupported)) { guards = (false, FunctionUnknown) ∷ [] }
 
 abbrev pub serve : State → calls.Call → Stepped
 serve s call = served s (service s call)

@@ -2,13 +2,11 @@
 //! The manifest of a machine.
 ghost use Rattle.std.specs.Prelude.{true, ◌≡◌, ℕ, ◌+◌, ◌*◌, ◌<◌, ◌≤◌, All, is_some, length, map};
 ghost use Rattle.ffa_model.specs.declared.manifest.Ffa.TheVariants.{V1_1};
-ghost use Rattle.ffa_model.specs.First.{party_of};
 ghost use Rattle.ffa_model.specs.Manifest.{is_accepted, root_of};
 ghost use Rattle.ffa_model.specs.Regions.{has_page, right_in, regions_at, normal_of, owned_regions, owner_in};
-ghost use Rattle.ffa_model.specs.State.{is_known_among, version_among};
 ghost use Rattle.ffa_model.specs.Endpoints.{have_uuids};
 
-use crate::endpoint::{Address, Endpoint, EndpointId, PageNo, Version, regions_until};
+use crate::endpoint::{Address, Endpoint, EndpointId, PageNo, regions_until};
 use crate::limits::MOST_ENDPOINTS;
 use crate::rights::Rights;
 use arrayvec::ArrayVec;
@@ -99,14 +97,6 @@ impl Manifest {
         ensures { result ≡ root_of self.now.ram_base.0 self.now.tables.0 self.now.ram_blocks index }
     {
         self.ram_base.0 + 4096 * (self.tables.0 + index as u32 * (2 + self.ram_blocks))
-    }
-
-    /// The form in which a known endpoint writes and reads descriptors.
-    pub fn version_of(&self, endpoint: EndpointId) -> Version
-        requires { is_known_among (length self.now.endpoints.items) endpoint.0 ≡ true }
-        ensures { result ≡ version_among (map party_of self.now.endpoints.items) endpoint.0 }
-    {
-        self.endpoints.as_slice()[endpoint.place()].version
     }
 
     /// The right that the regions of the endpoint at a place give it to a page; nothing where there is no such endpoint.

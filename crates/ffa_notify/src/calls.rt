@@ -4,7 +4,7 @@ ghost use Rattle.std.specs.Prelude.{◌≡◌, true, length, OnOk, OnErr, IfOk};
 ghost use Rattle.std.specs.Result.{result_err};
 ghost use Rattle.ffa_model.specs.Bits.{bits_of};
 ghost use Rattle.ffa_model.specs.Calls.{first_failure};
-ghost use Rattle.ffa_model.specs.Notifications.{bind_guards, class_of, create_guards, destroy_guards, get_guards, get_reply, set_guards, unbind_guards, with_bitmaps, with_bound, with_framework_bit, with_pending, without_bitmaps, without_bound, without_pending};
+ghost use Rattle.ffa_model.specs.Notifications.{bind_guards, class_of, create_guards, destroy_guards, get_guards, get_reply, set_guards, unbind_guards, with_bitmaps, with_bound, manager_class, message_bits, with_pending, without_bitmaps, without_bound, without_pending};
 ghost use Rattle.ffa_model.specs.State.{is_known_among};
 
 use crate::bitmaps::Bitmaps;
@@ -137,7 +137,7 @@ impl Bitmaps {
     /// The manager tells a receiver, if it has bitmaps, that an indirect message stands in its RX.
     pub fn raise_framework(&mut self, receiver: EndpointId)
         requires { is_known_among (length self.old.bitmaps) receiver.0 ≡ true }
-        ensures { self.new ≡ with_framework_bit self.old receiver.0 }
+        ensures { self.new ≡ with_pending self.old receiver.0 manager_class message_bits }
     {
         self.set_bits(receiver, Class::Manager, 1);
     }

@@ -10,7 +10,7 @@ use Rattle.ffa_model.specs.declared.certificate.CertRun.{CertRun}
 use Rattle.ffa_model.specs.declared.rights.Rights.{Rights}
 use Rattle.ffa_model.specs.Access.{access, right_of, transaction_at}
 use Rattle.ffa_model.specs.Agreement.{Agrees, root, roots_of}
-use Rattle.ffa_model.specs.Certified.{IsCertified, access_in, access_to, are_in_order, certified_answer}
+use Rattle.ffa_model.specs.Certified.{IsCertified, access_in, are_in_order, certified_answer}
 use Rattle.ffa_model.specs.Identifiers.{identifier}
 use Rattle.ffa_model.specs.Memory.{access_at}
 use Rattle.ffa_model.specs.Ram.{Ram}

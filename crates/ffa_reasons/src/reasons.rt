@@ -60,6 +60,6 @@ impl<'a, M: PhysMem + Drop, T: Translations + Drop, S: Store> Reasons<'a, M, T, 
     pub(crate) fn version(&self) -> Version
         ensures { result ≡ version_of self.now self.now.runner }
     {
-        self.parts.manifest.version_of(self.parts.chain.runner())
+        self.parts.versions.form_of(self.parts.chain.runner())
     }
 }

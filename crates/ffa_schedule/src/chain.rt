@@ -3,10 +3,11 @@
 ghost use Rattle.std.specs.Prelude.{◌≡◌, ◌<◌, ◌≤◌, length, slice_set, is_some, true, Some, None, OnOk, OnErr, IfOk, IsSomeAnd};
 ghost use Rattle.std.specs.Result.{result_err};
 ghost use Rattle.ffa_model.specs.Calls.{first_failure};
+ghost use Rattle.ffa_model.specs.declared.function.TheConstants.{FFA_MSG_WAIT, FFA_YIELD};
 ghost use Rattle.ffa_model.specs.declared.schedule.Status.TheVariants.{Yielded, Blocked};
 ghost use Rattle.ffa_model.specs.First.{first_status};
 ghost use Rattle.ffa_model.specs.Identifiers.{place};
-ghost use Rattle.ffa_model.specs.RunStates.{finished, first_schedule, given_cycles, is_waiting, requested, requester, run_guards, run_reply, scheduled, status_in, switched, wait_guards, wait_reply, with_work, work_in, yield_guards, yield_reply};
+ghost use Rattle.ffa_model.specs.RunStates.{finished, first_schedule, given_cycles, is_waiting, requested, requester, run_guards, run_reply, scheduled, status_in, switched, wait_guards, with_work, work_in, yield_guards};
 ghost use Rattle.ffa_model.specs.Sound.{IsSound, MayGoOn, MayStop, origin};
 ghost use Rattle.ffa_model.specs.State.{is_partition_among};
 
@@ -151,7 +152,7 @@ impl Chain {
     /// `Denied` where the normal world didn't give the runner cycles. An error changes nothing.
     pub fn wait(&mut self) -> Result<Reply, ErrorCode>
         ensures refusal { result_err result ≡ first_failure (wait_guards self.old) }
-        ensures reply { IfOk result (λ reply. reply ≡ wait_reply self.old.runner) }
+        ensures reply { IfOk result (λ reply. reply ≡ scheduled FFA_MSG_WAIT self.old.runner) }
         ensures kept { OnErr result (self.new ≡ self.old) }
         ensures changed { OnOk result (self.new ≡ finished self.old 0) }
         ensures sound { IsSound self.new }
@@ -170,7 +171,7 @@ impl Chain {
     /// `Denied` where the runner doesn't work for the normal world. An error changes nothing.
     pub fn yield_now(&mut self) -> Result<Reply, ErrorCode>
         ensures refusal { result_err result ≡ first_failure (yield_guards self.old) }
-        ensures reply { IfOk result (λ reply. reply ≡ yield_reply self.old.runner) }
+        ensures reply { IfOk result (λ reply. reply ≡ scheduled FFA_YIELD self.old.runner) }
         ensures kept { OnErr result (self.new ≡ self.old) }
         ensures changed { OnOk result (self.new ≡ switched self.old Yielded 0) }
         ensures sound { IsSound self.new }

@@ -1,9 +1,12 @@
 // SPDX-License-Identifier: MIT OR Apache-2.0
-//! Calls whose reply is all that they do.
-ghost use Rattle.std.specs.Prelude.{◌≡◌};
+//! Calls whose reply is all that they do, and the answers of FFA_VERSION.
+ghost use Rattle.std.specs.Prelude.{◌≡◌, ◌==◌, ◌&&◌, not, if◌then◌else◌};
+ghost use Rattle.ffa_model.specs.declared.call.Reply.TheVariants.{Version};
 ghost use Rattle.std.specs.Result.{result_err};
+ghost use Rattle.ffa_model.specs.Bits.{bits, is_set};
 ghost use Rattle.ffa_model.specs.Calls.{first_refusal, success};
-ghost use Rattle.ffa_model.specs.Setup.{version_reply, feature_properties, features_guards, features_reply, spm_id_reply};
+ghost use Rattle.ffa_model.specs.Identifiers.{manager};
+ghost use Rattle.ffa_model.specs.Setup.{version_reply, feature_properties, features_guards, features_reply};
 
 use ffa_abi::is_function;
 use ffa_model::function::{FFA_MEM_RETRIEVE_REQ, FFA_MEM_RETRIEVE_REQ_64};
@@ -18,16 +21,26 @@ const TELLS_WORLDS: u32 = 2;
 /// NOT_SUPPORTED as FFA_VERSION answers it, as 32 bits of two's complement.
 const NO_VERSION: u32 = 0xFFFF_FFFF;
 
-/// FFA_VERSION (DEN0077A, 13): version 1.1 to a caller of any version with the major number 1, and else
-/// NOT_SUPPORTED.
+/// FFA_VERSION (DEN0077A, 13) on a machine of FF-A 1.1: version 1.1 to a caller of any version with the major number 1, and
+/// else NOT_SUPPORTED.
 pub fn version(version: u32) -> Reply
     ensures { result ≡ version_reply version }
 {
-    if version >> 16 == 1 {
-        Reply::Version(VERSION)
-    } else {
-        Reply::Version(NO_VERSION)
-    }
+    answer(is_version(version))
+}
+
+/// Whether a word names a version whose major number is 1.
+pub fn is_version(word: u32) -> bool
+    ensures { result ≡ (not (is_set 31 word) && bits 30 16 word == 1) }
+{
+    word >> 16 == 1
+}
+
+/// FFA_VERSION's answer, by whether the caller's version is served.
+pub fn answer(is_served: bool) -> Reply
+    ensures { result ≡ Version (if is_served then 0x10001 else 0xFFFFFFFF) }
+{
+    Reply::Version(if is_served { VERSION } else { NO_VERSION })
 }
 
 /// FFA_FEATURES (DEN0077A, 13), by the identifier of a call in either form: whether there is such a call, and of
@@ -76,7 +89,7 @@ pub fn id(caller: EndpointId) -> Reply
 
 /// FFA_SPM_ID_GET (DEN0077A, 13): the manager's identifier.
 pub fn spm_id() -> Reply
-    ensures { result ≡ spm_id_reply }
+    ensures { result ≡ success manager 0 }
 {
     id(EndpointId::MANAGER)
 }

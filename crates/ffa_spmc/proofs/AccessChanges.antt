@@ -8,7 +8,7 @@ use Rattle.std.specs.FinMap as finite
 use Rattle.std.proofs.lemmas.List.{get_or_past}
 use Rattle.std.proofs.lemmas.Bool.{and_parts, cases_Bool, cases_eq, cases_lt, eqb-false, eqb-true, false≢true, true≢false}
 use Rattle.ffa_model.specs.declared.call.Call.{Call}
-use Rattle.ffa_model.specs.declared.call.Call.TheVariants.{PartitionInfoGet, MemDonate, MemLend, MemShare, MemRetrieve, MemRelinquish, MemReclaim, MsgSend2}
+use Rattle.ffa_model.specs.declared.call.Call.TheVariants.{PartitionInfoGet, MemDonate, MemLend, MemShare, MemRetrieve, MemRelinquish, MemReclaim, MsgSend2, Version}
 use Rattle.ffa_model.specs.declared.descriptor.RelinquishDesc.{RelinquishDesc}
 use Rattle.ffa_model.specs.declared.endpoint.EndpointId.{EndpointId}
 use Rattle.ffa_model.specs.declared.operation.Op.{Op}
@@ -37,9 +37,10 @@ use Rattle.ffa_memshare.specs.declared.changed.Changed.{Changed}
 use Rattle.ffa_memshare.specs.Changed.{changed_sender}
 use Rattle.ffa_memshare.specs.Ranges.{ArePlaced}
 use Rattle.ffa_memshare.proofs.Joined.{owners-right, reclaim-beside, reclaim-none, reclaim-share, unheld-right}
-use Rattle.ffa_spmc.specs.AccessChange.{IsAccessChange, IsTelling, is_of, is_whose}
+use Rattle.ffa_spmc.specs.AccessChange.{IsAccessChange, IsTelling, is_whose}
 use Rattle.ffa_spmc.specs.Meaning.{IsManager, Parts, state_of}
 use Rattle.ffa_spmc.proofs.Granted.{donate-beside, none-kept, own-kept, send-beside, sendable-own}
+use Rattle.ffa_laws.proofs.Versions.{version-leaves}
 use Rattle.ffa_spmc.proofs.Held.{size_is}
 
 -- A CALL THAT ISN'T ON MEMORY leaves all of them as they were: of pages it changes bytes alone
@@ -50,6 +51,7 @@ module _ (s : State) (e p : ℕ) where
         | true ↦ refl
         | false ↦ access-filled s s.runner (info_bytes (version_of s s.runner) s.parties (uuid_bytes uuid)) e p
       ]
+  left-service (Version word) beside = version-leaves (λ t. access t e p ≡ access s e p) s.ffa s word refl (λ version. refl)
   left-service MsgSend2 beside = access-filled s (header_in (tx_bytes s s.runner)).receiver (message_in (tx_bytes s s.runner)) e p
   left-service (MemDonate x) beside = absurd (true≢false beside)
   left-service (MemLend x) beside = absurd (true≢false beside)

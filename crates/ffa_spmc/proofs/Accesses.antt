@@ -29,7 +29,7 @@ use Rattle.ffa_laws.proofs.SoundOperations.{step-sound}
 use Rattle.ffa_laws.proofs.SoundSteady.{runner-known}
 use Rattle.ffa_walker.specs.Offset.{KeepsOffset}
 use Rattle.ffa_walker.proofs.Offsets.{KeepsOffset-walk}
-use Rattle.ffa_physmem.specs.Moments.{IsWriting, Only, Past, Step, TurnsIn}
+use Rattle.ffa_physmem.specs.Moments.{IsWriting, Only, Past, TurnsIn}
 use Rattle.ffa_stage2.specs.Tables.{IsAside}
 use Rattle.ffa_spmc.specs.Moments.{AreMoments}
 use Rattle.ffa_spmc.specs.Meaning.{HasTables, IsManager, Parts, access_by_place, state_of}

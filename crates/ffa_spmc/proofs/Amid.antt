@@ -16,7 +16,7 @@ use Rattle.ffa_model.specs.Ram.{Ram}
 use Rattle.ffa_model.specs.SoundState.{IsSoundState}
 use Rattle.ffa_model.specs.State.{State, Page, page_at as page_of_state}
 use Rattle.ffa_model.specs.Walk.{Answer, mapped_answer, walk}
-use Rattle.ffa_physmem.specs.Moments.{Adds, AreInTurn, Only, Past, Step, TurnsIn}
+use Rattle.ffa_physmem.specs.Moments.{Adds, Only, Past, Step, TurnsIn}
 use Rattle.ffa_physmem.proofs.Moments.{Adds-none, Only-both, Only-each, Only-map}
 use Rattle.ffa_stage2.specs.Amid.{Amid, Moment, behind}
 use Rattle.ffa_stage2.specs.Held.{HeldBetween}

@@ -9,7 +9,7 @@ use Rattle.ffa_model.specs.State.{State, Page, page_at}
 use Rattle.ffa_model.specs.Lists.{is_in_run}
 use Rattle.ffa_physmem.specs.Moments.{Site, HasNoCopies, is_copied}
 use Rattle.ffa_spmc.specs.declared.run.Run.{Run}
-use Rattle.ffa_spmc.specs.Among.{AreRead, IsDoneReading, IsRead, is_in}
+use Rattle.ffa_spmc.specs.Among.{AreRead, IsDoneReading, is_in}
 use Rattle.ffa_spmc.specs.Operated.{IsDone}
 use Rattle.ffa_spmc.specs.Snapshot.{Snapshot}
 use Rattle.ffa_spmc.specs.Unowned.{IsNoTable, KeepsUnowned}

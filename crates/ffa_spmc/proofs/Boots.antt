@@ -145,6 +145,7 @@ module _ (given : Ram) (x : Parts) (ready : IsReadyFor x.manifest given)
     (rest : KeepsRest given x.ram (array_vec_len x.kept.layout.regions) x.kept.layout.tables.0 x.kept.layout.blocks)
     (owners : x.kept.pages ≡ first_owners x.manifest) (slots : x.kept.pool.slots ≡ replicate (MOST_OPEN * length x.manifest.endpoints.items) None)
     (sent : x.kept.pool.sent ≡ replicate (length x.manifest.endpoints.items) 0) (none : x.kept.buffers ≡ replicate (length x.manifest.endpoints.items) None) (schedule : x.kept.chain ≡ first_schedule (length x.manifest.endpoints.items))
+    (versions : x.kept.versions ≡ map (λ (e : Endpoint). e.version) x.manifest.endpoints.items)
     (bitmaps : x.kept.bitmaps.bitmaps ≡ map has_first_bitmaps (enumerate_from 0 x.manifest.endpoints.items)) (bound : x.kept.bitmaps.bound ≡ finite_set.empty) (pending : x.kept.bitmaps.pending ≡ finite_set.empty)
     (uuids : have_uuids x.manifest.endpoints.items ≡ true) (laws : TableLaws) where
   abbrev es : List Endpoint
@@ -215,6 +216,7 @@ module _ (given : Ram) (x : Parts) (ready : IsReadyFor x.manifest given)
     runner = (schedule i).runner;
     statuses = (schedule i).statuses;
     works = (schedule i).works;
+    versions = versions i;
     bitmaps = bitmaps i;
     bound = bound i;
     pending = pending i;

@@ -20,7 +20,7 @@ use Rattle.ffa_model.specs.Step.{step}
 use Rattle.ffa_model.proofs.CallAccesses.{access-written}
 use Rattle.ffa_laws.proofs.Form.{accessed-kept}
 use Rattle.ffa_laws.proofs.SoundSteady.{runner-known}
-use Rattle.ffa_physmem.specs.Moments.{Past, Step}
+use Rattle.ffa_physmem.specs.Moments.{Past}
 use Rattle.ffa_tlb.specs.Lookups.{lookup}
 use Rattle.ffa_tlb.specs.declared.translations.Entry.{Entry}
 use Rattle.ffa_spmc.specs.Cached.{AreKept, AreSameOrGone, AreWalks, address_in, is_accessed, is_miss, is_runners, missed_page}

@@ -1,8 +1,7 @@
 -- SPDX-License-Identifier: MIT OR Apache-2.0
 -- Who runs on each processor of a machine, as it is kept.
 use Rattle.std.proofs.Common.{◌≡◌, ◌≢◌, ◌∙◌, ℕ, suc, zero, ◌<◌, ◌≤◌, Bool, true, false, cond, Option, Some, None, List, [], ◌∷◌, length, map, get_or, set, replicate, refl, sym, ap, subst, subst₂, arith}
-use Rattle.std.specs.Prelude.{◌==◌}
-use Rattle.std.proofs.lemmas.Bool.{eq-eqb, ne_eqb}
+use Rattle.std.proofs.lemmas.Bool.{ne_eqb}
 use Rattle.std.proofs.lemmas.List.{get_or-replicate, length-map, map-set}
 use Rattle.ffa_model.specs.declared.endpoint.Endpoint.{Endpoint}
 use Rattle.ffa_model.specs.declared.manifest.Manifest.{Manifest}
@@ -10,31 +9,27 @@ use Rattle.ffa_model.specs.declared.manifest.Ffa.{Ffa}
 use Rattle.ffa_model.specs.First.{first, first_held, party_of}
 use Rattle.ffa_model.specs.Ram.{Ram, page_of}
 use Rattle.ffa_model.proofs.FirstChain.{first-here}
-use Rattle.ffa_spmc.specs.Booted.{IsBooted, IsBootedHeld}
+use Rattle.ffa_spmc.specs.Booted.{IsBootedHeld}
 use Rattle.ffa_model.specs.declared.endpoint.EndpointId.{EndpointId}
 use Rattle.ffa_model.specs.declared.limits.TheConstants.{MOST_PROCESSORS}
 use Rattle.ffa_model.specs.declared.operation.Effect.{Effect}
 use Rattle.ffa_model.specs.declared.operation.Effect.TheVariants as effects
 use Rattle.ffa_model.specs.declared.operation.Op.{Op}
-use Rattle.ffa_model.specs.Step.{step}
 use Rattle.ffa_model.specs.declared.operation.Outcome.{Outcome}
 use Rattle.ffa_model.specs.declared.schedule.Status.{Status}
-use Rattle.ffa_model.specs.Processors.{ArePlaced, IsHere, Processors, SameElsewhere, effected, first_processors, interrupt, left_status, moved_to, noted, on, runner_on, step_resuming, turned, with_switch}
+use Rattle.ffa_model.specs.Processors.{ArePlaced, IsHere, Processors, SameElsewhere, effected, first_processors, interrupt, left_status, moved_to, noted, on, runner_on, turned, with_switch}
 use Rattle.ffa_model.specs.RunStates.{Schedule, schedule_of}
 use Rattle.ffa_model.specs.Sound.{MayGoOn}
 use Rattle.ffa_model.specs.SoundState.{IsSoundState}
 use Rattle.ffa_model.specs.State.{State}
 use Rattle.ffa_model.proofs.Processors.{moved-goes, placed-still, turned-placed}
-use Rattle.ffa_laws.specs.Isolation.{NeverGrow}
 use Rattle.ffa_laws.proofs.ProcessorLaws.{effect-elsewhere, interrupt-elsewhere}
 use Rattle.ffa_laws.proofs.SoundOperations.{elsewhere-step}
-use Rattle.ffa_laws.proofs.SoundSteady.{sound-steady}
 use Rattle.ffa_spmc.specs.declared.run.Run.{Run}
 use Rattle.ffa_spmc.specs.Among.{IsDoneReading, IsRead}
 use Rattle.ffa_spmc.specs.Operated.{IsDone}
 use Rattle.ffa_spmc.specs.Clustered.{IsEffected, in_state, pages_observed}
 use Rattle.ffa_spmc.specs.Snapshot.{Snapshot}
-use Rattle.ffa_spmc.specs.Unowned.{KeepsUnowned}
 
 abbrev pub nobody : EndpointId
 nobody = record { 0 = 0 }

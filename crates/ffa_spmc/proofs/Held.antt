@@ -1,6 +1,6 @@
 -- SPDX-License-Identifier: MIT OR Apache-2.0
 -- The state that RAM and a manifest mean, part by part.
-use Rattle.std.proofs.Common.{◌≡◌, ◌∙◌, ℕ, ◌*◌, ◌<◌, ◌≤◌, true, List, length, map, Option, Some, None, refl, sym, ap, subst, arith, inl, inr}
+use Rattle.std.proofs.Common.{◌≡◌, ◌∙◌, ℕ, ◌*◌, ◌<◌, ◌≤◌, List, length, map, Option, Some, None, refl, sym, ap, subst, arith, inl, inr}
 use Rattle.std.specs.Prelude.{find}
 use Rattle.std.specs.Option.{option_and_then, option_map, option_map_or}
 use Rattle.std.specs.Ordering.{nat_cmp}
@@ -11,17 +11,15 @@ use Rattle.std.proofs.lemmas.Option.{none-some}
 use Rattle.ffa_model.specs.declared.endpoint.Endpoint.{Endpoint}
 use Rattle.ffa_model.specs.declared.endpoint.Region.{Region}
 use Rattle.ffa_model.specs.Agreement.{blocks_of}
-use Rattle.ffa_model.specs.Identifiers.{identifier, manager, place}
+use Rattle.ffa_model.specs.Identifiers.{identifier, manager}
 use Rattle.ffa_model.specs.Ram.{page_of}
 use Rattle.ffa_model.specs.Regions.{has_page, normal_of, owned_regions, right_in, regions_at}
-use Rattle.ffa_model.specs.State.{State, Page, Transaction, is_known_among, owner_of, page_at}
+use Rattle.ffa_model.specs.State.{State, Page, Transaction, owner_of, page_at}
 use Rattle.ffa_model.specs.Access.{access, handle_at, is_naming, transaction_at, right_of}
 use Rattle.ffa_model.specs.First.{first, party_of, page_with_bytes}
-use Rattle.ffa_model.specs.Sound.{IsSound}
 use Rattle.ffa_model.proofs.Listed.{length-listed, get_or-listed, get_or-listed_past}
 use Rattle.ffa_model.proofs.Accepted.{accepted}
 use Rattle.ffa_model.proofs.Owners.{right-own}
-use Rattle.ffa_model.proofs.Places.{known-place}
 use Rattle.ffa_model.proofs.Handles.{find_none}
 use Rattle.ffa_pages.specs.Entry.{Entry, entry_at, first_entry, owner_at}
 use Rattle.ffa_stage2.specs.Tables.{IsAside, table_page}

@@ -1,6 +1,6 @@
 -- SPDX-License-Identifier: MIT OR Apache-2.0
 -- Partition information: its checks and what they leave, from what the code tests.
-use Rattle.std.proofs.Common.{◌≡◌, ◌∙◌, ℕ, Bool, true, false, cond, List, length, map, Option, Some, None, refl, sym, ap}
+use Rattle.std.proofs.Common.{◌≡◌, ◌∙◌, ℕ, Bool, true, false, cond, List, length, map, get_or, Option, Some, None, refl, sym, ap}
 use Rattle.std.specs.Prelude.{◌||◌, is_some, not}
 use Rattle.std.proofs.lemmas.Option.{none-some}
 use Rattle.ffa_model.specs.declared.endpoint.Version.{Version}
@@ -9,12 +9,14 @@ use Rattle.ffa_model.specs.declared.refusal.Refusal.TheVariants.{BuffersMissing,
 use Rattle.ffa_model.specs.Buffers.{buffers_in, filled, is_full}
 use Rattle.ffa_model.specs.Calls.{first_refusal, success}
 use Rattle.ffa_model.specs.First.{first, party_of}
+use Rattle.ffa_model.specs.declared.endpoint.Version.TheVariants.{V1_1}
+use Rattle.ffa_model.specs.Identifiers.{place}
 use Rattle.ffa_model.specs.Manifest.{is_nil}
 use Rattle.ffa_model.specs.Setup.{info_bytes, info_get, info_guards, told_info_size, informed, is_any, is_count_alone, selected, uuid_bytes}
 use Rattle.ffa_model.specs.declared.call.Call.TheVariants.{PartitionInfoGet}
-use Rattle.ffa_model.specs.State.{Party, Buffers, version_among, version_of}
+use Rattle.ffa_model.specs.State.{Party, Buffers, version_of}
 use Rattle.ffa_model.proofs.Guards.{answers-pass}
-use Rattle.ffa_physmem.specs.Moments.{Past, Step}
+use Rattle.ffa_physmem.specs.Moments.{Past}
 use Rattle.ffa_spmc.specs.Meaning.{IsManager, Parts, state_of}
 use Rattle.ffa_spmc.specs.Managed.{Managed}
 use Rattle.ffa_spmc.proofs.Answered.{passed-state}
@@ -34,9 +36,9 @@ module _ (x : Parts) {past : Past} (now : Managed) (view : record { state = stat
   unfolding first
   parties-seen = ap (λ (seen : Managed). seen.state.parties) view
 
-  pub version-seen : version_among (map party_of x.manifest.endpoints.items) e ≡ version_of now.state now.state.runner
+  pub version-seen : get_or x.kept.versions (place e) V1_1 ≡ version_of now.state now.state.runner
   unfolding first
-  version-seen = (λ i. version_among (map party_of x.manifest.endpoints.items) (at i)) ∙ ap (λ (seen : Managed). version_of seen.state seen.state.runner) view
+  version-seen = (λ i. get_or x.kept.versions (place (at i)) V1_1) ∙ ap (λ (seen : Managed). version_of seen.state seen.state.runner) view
 
   refusal-is : (uuid : List ℕ) (flags : ℕ)
       → decided (is_nil uuid || is_any (selected (map party_of x.manifest.endpoints.items) uuid)) (is_count_alone flags) (is_some own) (is_full own)

@@ -25,6 +25,7 @@ pub mod Clearings
 pub mod BufferCalls
 pub mod Fills
 pub mod Information
+pub mod Versions
 pub mod Schedules
 pub mod Switches
 pub mod Clusters

@@ -1,6 +1,6 @@
 -- SPDX-License-Identifier: MIT OR Apache-2.0
 -- A machine whose runner stops with its work, and in which another goes on: all but the run states is as it was.
-use Rattle.std.proofs.Common.{◌≡◌, ◌∙◌, ℕ, List, Option, sym, ap, subst}
+use Rattle.std.proofs.Common.{◌≡◌, ◌∙◌, ℕ, sym, ap, subst}
 use Rattle.ffa_model.specs.declared.schedule.Status.{Status}
 use Rattle.ffa_model.specs.Processors.{with_switch}
 use Rattle.ffa_model.specs.RunStates.{Schedule, switched, with_schedule}
@@ -8,7 +8,7 @@ use Rattle.ffa_model.specs.Sound.{MayGoOn, MayStop}
 use Rattle.ffa_model.specs.SoundState.{IsSoundState}
 use Rattle.ffa_model.specs.State.{State}
 use Rattle.ffa_laws.proofs.ProcessorLaws.{sound-switched}
-use Rattle.ffa_physmem.specs.Moments.{Past, Step}
+use Rattle.ffa_physmem.specs.Moments.{Past}
 use Rattle.ffa_spmc.specs.Cached.{AreWalks}
 use Rattle.ffa_spmc.specs.Clustered.{in_state}
 use Rattle.ffa_spmc.specs.Managed.{Managed}

@@ -2,6 +2,7 @@
 -- FOR PROOFS ALONE
 -- What a machine keeps beside its RAM and its manifest, with any store.
 use Rattle.std.specs.Prelude.{List, Option}
+use Rattle.ffa_model.specs.declared.endpoint.Version.{Version}
 use Rattle.ffa_model.specs.Notifications.{Notifications}
 use Rattle.ffa_model.specs.RunStates.{Schedule}
 use Rattle.ffa_model.specs.State.{Buffers}
@@ -17,7 +18,8 @@ pub record KeptParts : Type 0 where
   pub buffers : List (Option Buffers)
   pub chain : Schedule
   pub bitmaps : Notifications
+  pub versions : List Version
 
 abbrev pub kept_parts : {S P O : Type 0} → Kept S P O → KeptParts
 kept_parts kept =
-    record { layout = kept.layout; pages = kept.pages; pool = kept.pool; buffers = kept.buffers; chain = kept.chain; bitmaps = kept.bitmaps }
+    record { layout = kept.layout; pages = kept.pages; pool = kept.pool; buffers = kept.buffers; chain = kept.chain; bitmaps = kept.bitmaps; versions = kept.versions }

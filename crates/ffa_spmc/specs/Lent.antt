@@ -20,6 +20,7 @@ lent_parts meaning lent =
         buffers = lent.buffers.now;
         chain = lent.chain.now;
         bitmaps = lent.bitmaps.now;
+        versions = lent.versions.now;
       };
     }
 

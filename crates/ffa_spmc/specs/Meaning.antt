@@ -47,6 +47,7 @@ state_of x =
       statuses = x.kept.chain.statuses;
       works = x.kept.chain.works;
       bitmaps = x.kept.bitmaps.bitmaps;
+      versions = x.kept.versions;
       bound = x.kept.bitmaps.bound;
       pending = x.kept.bitmaps.pending;
     }

@@ -2,11 +2,11 @@
 -- What walks in mixtures, and translation units that hold their answers until a page is settled (DDI 0487, C5.5), give while an
 -- operation is done: what they gave before it, or give behind it, or a translation fault. Pages are written only while neither
 -- leads there; and behind it the tables are at rest.
-use Rattle.std.specs.Prelude.{List, length, Option}
+use Rattle.std.specs.Prelude.{length}
 use Rattle.ffa_model.specs.Agreement.{blocks_of}
 use Rattle.ffa_model.specs.Ram.{Ram}
 use Rattle.ffa_model.specs.State.{State}
-use Rattle.ffa_physmem.specs.Moments.{Only, Past, Step}
+use Rattle.ffa_physmem.specs.Moments.{Only, Past}
 use Rattle.ffa_stage2.specs.Held.{IsUnshaken, WritesUnheld}
 use Rattle.ffa_stage2.specs.Rest.{RestIn}
 use Rattle.ffa_spmc.specs.Amid.{StaysAmid}

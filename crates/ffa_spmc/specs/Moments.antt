@@ -1,7 +1,7 @@
 -- SPDX-License-Identifier: MIT OR Apache-2.0
 -- FOR PROOFS ALONE
 -- What holds at each step of an operation, where others walk the tables meanwhile.
-use Rattle.std.specs.Prelude.{List, length, Option}
+use Rattle.std.specs.Prelude.{List, length}
 use Rattle.ffa_model.specs.Agreement.{blocks_of}
 use Rattle.ffa_model.specs.Ram.{Ram}
 use Rattle.ffa_model.specs.State.{State}

@@ -1,6 +1,6 @@
 // SPDX-License-Identifier: MIT OR Apache-2.0
 //! What a machine keeps beside its RAM.
-ghost use Rattle.std.specs.Prelude.{◌≡◌, ◌*◌, None, length, replicate};
+ghost use Rattle.std.specs.Prelude.{◌≡◌, ◌*◌, None, length, map, replicate};
 ghost use Rattle.ffa_model.specs.declared.limits.TheConstants.{MOST_OPEN};
 ghost use Rattle.ffa_model.specs.Lists.{listed};
 ghost use Rattle.ffa_model.specs.RunStates.{first_schedule};
@@ -15,6 +15,7 @@ use ffa_notify::Bitmaps;
 use ffa_pages::PageTable;
 use ffa_rxtx::Buffers;
 use ffa_schedule::Chain;
+use ffa_setup::Versions;
 use ffa_stage2::Layout;
 
 /// What a machine keeps beside the RAM.
@@ -34,12 +35,14 @@ pub struct Kept<S: Store = Inline> {
     pub buffers: Buffers,
     /// Who runs, and for whom.
     pub chain: Chain,
+    /// In which form each endpoint writes and reads.
+    pub versions: Versions,
 }
 
 impl<S: Store> Kept<S> {
     /// What the machine of a manifest keeps at first: each page of a region is its endpoint's, nothing is open, nobody has
     /// buffers, the normal world runs, and partitions that receive notifications have bitmaps, of which no bit is bound or
-    /// pending.
+    /// pending. Each endpoint has the form that the manifest gives it.
     // Not inlined, so that the stack of its copies is free again when the tables are built.
     #[inline(never)]
     pub fn first(manifest: &Manifest, storage: Storage<S>) -> Kept<S>
@@ -52,6 +55,7 @@ impl<S: Store> Kept<S> {
         ensures sent { result.pool.sent ≡ replicate (length manifest.now.endpoints.items) 0 }
         ensures buffers { result.buffers ≡ replicate (length manifest.now.endpoints.items) None }
         ensures chain { result.chain ≡ first_schedule (length manifest.now.endpoints.items) }
+        ensures versions { result.versions ≡ map (λ e. e.version) manifest.now.endpoints.items }
     {
         let Storage { mut pages, pool } = storage;
         pages.fill(manifest);
@@ -63,6 +67,7 @@ impl<S: Store> Kept<S> {
             pool,
             buffers: Buffers::none(manifest.endpoints.len()),
             chain: Chain::first(manifest.endpoints.len()),
+            versions: Versions::of(manifest),
         }
     }
 
@@ -79,6 +84,7 @@ impl<S: Store> Kept<S> {
         ensures pool { result.pool ≡ self.now.pool }
         ensures buffers { result.buffers ≡ self.now.buffers }
         ensures chain { result.chain ≡ self.now.chain }
+        ensures versions { result.versions ≡ self.now.versions }
     {
         let Storage {
             mut pages,
@@ -94,6 +100,7 @@ impl<S: Store> Kept<S> {
             pool,
             buffers: self.buffers.copy(),
             chain: self.chain.copy(),
+            versions: self.versions.copy(),
         }
     }
 }

@@ -33,6 +33,7 @@ mod notifications;
 mod parts;
 mod readings;
 mod switching;
+mod versions;
 
 use crate::kept::Kept;
 use crate::storage::{Inline, Storage, Store};
@@ -124,6 +125,7 @@ impl<M: PhysMem + Drop, S: Store> Manager<M, S> {
             pool,
             buffers: _,
             chain: _,
+            versions: _,
         } = kept;
         (ram, Storage { pages, pool })
     }
@@ -165,7 +167,7 @@ impl<M: PhysMem + Drop, S: Store> Manager<M, S> {
     fn version(&self) -> Version
         ensures { result ≡ version_of self.now.state self.now.state.runner }
     {
-        self.kept.manifest.version_of(self.kept.chain.runner())
+        self.kept.versions.form_of(self.kept.chain.runner())
     }
 
     // The owner of a page of the RAM; 0x8000 is the manager.
@@ -239,7 +241,7 @@ impl<M: PhysMem + Drop, S: Store> Manager<M, S> {
             (is_memory_call call.now) (service self.old.state call.now) result }
     {
         match call {
-            Call::Version { version } => ffa_setup::version(*version),
+            Call::Version { version } => self.ffa_version(*version),
             Call::Features { function } => self.features(*function),
             Call::RxRelease => self.rx_release(),
             Call::RxtxMap { tx, rx, pages } => self.rxtx_map(*tx, *rx, *pages),

@@ -8,6 +8,7 @@ use ffa_pages::PageTable;
 use ffa_physmem::PhysMem;
 use ffa_rxtx::Buffers;
 use ffa_schedule::Chain;
+use ffa_setup::Versions;
 use ffa_stage2::Layout;
 
 /// The parts of a machine, for who tells of it what the machine itself doesn't. What they are together `Machine::parts` says.
@@ -29,4 +30,6 @@ pub struct Parts<'a, M: PhysMem + Drop, S: Store> {
     pub buffers: &'a Buffers,
     /// Who runs, and for whom.
     pub chain: &'a Chain,
+    /// In which form each endpoint writes and reads.
+    pub versions: &'a Versions,
 }

@@ -6,7 +6,7 @@ use Rattle.std.specs.List.{list_all}
 use Rattle.std.specs.FinMap as finite
 use Rattle.std.proofs.lemmas.Option.{none-some, same_Some}
 use Rattle.ffa_model.specs.declared.call.Call as calls
-use Rattle.ffa_model.specs.declared.call.Call.TheVariants.{PartitionInfoGet, MemDonate, MemLend, MemShare, MemRetrieve, MemRelinquish, MemReclaim, MsgSend2}
+use Rattle.ffa_model.specs.declared.call.Call.TheVariants.{PartitionInfoGet, MemDonate, MemLend, MemShare, MemRetrieve, MemRelinquish, MemReclaim, MsgSend2, Version}
 use Rattle.ffa_model.specs.declared.certificate.CertRun.{CertRun}
 use Rattle.ffa_model.specs.declared.function.TheConstants.{FFA_INTERRUPT, FFA_NOTIFICATION_BITMAP_CREATE, FFA_NOTIFICATION_GET}
 use Rattle.ffa_model.specs.declared.limits.TheConstants.{MOST_ENDPOINTS, MOST_PROCESSORS}
@@ -49,6 +49,7 @@ use Rattle.play_syntax.specs.Lines.{outcome_in, outcome_of}
 use Rattle.play_syntax.specs.TraceLines.{Line, operate, turn, interrupt}
 use Rattle.play_syntax.specs.TraceText.{line_after}
 use Rattle.ffa_laws.specs.OwnAccess.{is_memory_call}
+use Rattle.ffa_laws.proofs.Versions.{version-leaves}
 use Rattle.play_drawing.specs.Effects.{gives_or_takes}
 
 -- A CALL IN ONE CONTEXT is one on memory transactions where it is one with its own registers
@@ -183,6 +184,8 @@ module _ (s : State) where
         | true ↦ still
         | false ↦ left-filled s.runner (info_bytes (version_of s s.runner) s.parties (uuid_bytes uuid))
       ]
+  left-service (Version word) beside =
+      version-leaves (IsLeft s) s.ffa s word still (λ version. record { parties = refl; base = refl; transactions = refl; pages = unwritten s.pages })
   left-service MsgSend2 beside =
       record {
         parties = refl;

@@ -122,9 +122,7 @@ impl<'m, S: Stage + Drop> Generator<'m, S> {
         change: Change,
     ) -> Option<(u32, Option<[u64; 8]>)> {
         let runner = self.runner();
-        let version = self
-            .endpoint(runner)
-            .map_or(Version::V1_1, |endpoint| endpoint.version);
+        let version = self.version_of(runner);
         let mut page = [0; PAGE_SIZE];
         let length = descriptor.write(version, runner, &mut page)?;
         if change == Change::Field {

@@ -10,7 +10,8 @@ use bitflags::Flags;
 use ffa_abi::decode;
 use ffa_model::function::*;
 use ffa_model::{
-    Call, Endpoint, EndpointId, MOST_ENDPOINTS, Manifest, Op, Outcome, Properties, Range, Work,
+    Call, Endpoint, EndpointId, MOST_ENDPOINTS, Manifest, Op, Outcome, Properties, Range, Version,
+    Work,
 };
 use play_transcript::{Attempt, Change, Deed, TraceEntry};
 
@@ -202,6 +203,12 @@ impl<'m, S: Stage + Drop> Generator<'m, S> {
     /// An endpoint, where it is there.
     pub(crate) fn endpoint(&self, endpoint: EndpointId) -> Option<&'m Endpoint> {
         self.manifest.endpoints.as_slice().get(endpoint.place())
+    }
+
+    /// The form in which an endpoint writes and reads, as the manifest says.
+    pub(crate) fn version_of(&self, endpoint: EndpointId) -> Version {
+        self.endpoint(endpoint)
+            .map_or(Version::V1_1, |endpoint| endpoint.version)
     }
 
     /// Whether an endpoint has these properties.

@@ -4,6 +4,7 @@ use crate::generator::{Generator, halves};
 use crate::stage::Stage;
 use byteorder::{ByteOrder, LittleEndian};
 use ffa_model::function::*;
+use ffa_model::{Ffa, Version};
 use play_transcript::{Change, Deed};
 
 /// Identifiers that FFA_FEATURES is asked about.
@@ -38,16 +39,28 @@ impl<'m, S: Stage + Drop> Generator<'m, S> {
     /// A setup call.
     pub(crate) fn play_setup(&mut self) {
         let (function, argument) = match self.dice.below(4) {
-            0 => {
-                let versions = [0x1_0000, 0x1_0001, 0x2_0000, 0x8001_0001, 0];
-                (FFA_VERSION, self.dice.pick(&versions))
-            }
+            0 => (FFA_VERSION, self.version_word()),
             1 => (FFA_FEATURES, u64::from(self.dice.pick(&ASKED))),
             2 => (FFA_ID_GET, self.dice.word()),
             _ => (FFA_SPM_ID_GET, 0),
         };
         self.announce(Deed::Setup, None, Change::Nothing);
         self.call(function, &[argument]);
+    }
+
+    // A word of FFA_VERSION. On a machine of FF-A 1.2 it never changes the runner's form, so that descriptors keep the form
+    // that the manifest says.
+    fn version_word(&mut self) -> u64 {
+        let word = self
+            .dice
+            .pick(&[0x1_0000, 0x1_0001, 0x2_0000, 0x8001_0001, 0]);
+        if self.manifest.ffa == Ffa::V1_1 || word >> 16 != 1 {
+            return word;
+        }
+        match self.version_of(self.runner()) {
+            Version::Compact => 0x1_0000,
+            Version::V1_1 => 0x1_0001,
+        }
     }
 
     /// FFA_PARTITION_INFO_GET: without buffers, with RX full, or by the UUID Nil, an endpoint's or nobody's.

@@ -21,6 +21,7 @@ impl<M: PhysMem + Drop, S: Store> Manager<M, S> {
             pool: &self.kept.pool,
             buffers: &self.kept.buffers,
             chain: &self.kept.chain,
+            versions: &self.kept.versions,
         }
     }
 }

@@ -1,5 +1,5 @@
 -- SPDX-License-Identifier: MIT OR Apache-2.0
-use Rattle.std.proofs.Common.{◌≡◌, ◌∙◌, ap, true, false, rules, sym, eq-eqb}
+use Rattle.std.proofs.Common.{◌≡◌, true, false, rules, sym, eq-eqb}
 use Rattle.std.specs.Prelude.{◌==◌}
 use Rattle.std.proofs.lemmas.Bool.{ne_eqb}
 use Rattle.ffa_messages.proofs.Refusals.{refused-flags}

@@ -5,7 +5,7 @@ use Rattle.std.specs.Option.{option_map}
 use Rattle.ffa_model.specs.declared.why.Why.{Why}
 use Rattle.ffa_model.specs.State.{State}
 use Rattle.ffa_model.specs.Step.{step}
-use Rattle.ffa_model.specs.Why.{outcome_of, why}
+use Rattle.ffa_model.specs.Why.{outcome_of}
 use Rattle.ffa_model.proofs.Reasons.{why-outcome, why-refused}
 use Rattle.ffa_playable.specs.declared.detail.Explanation.{Explanation}
 use Rattle.ffa_playable.specs.Standing.{detail}

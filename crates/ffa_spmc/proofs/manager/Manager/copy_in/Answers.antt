@@ -26,6 +26,7 @@ returns-clause-rest g c =
         buffers = sym same.buffers i;
         chain = sym same.chain i;
         bitmaps = sym same.bitmaps i;
+        versions = sym same.versions i;
       };
     } in
     subst (λ (x : Parts). TablesRest (state_of x) x.ram past) copied (rest-of (within ram) machine past c.settle_tables.ensures.at_rest)

@@ -1,5 +1,5 @@
 -- SPDX-License-Identifier: MIT OR Apache-2.0
-use Rattle.std.proofs.Common.{◌∙◌, ap, is_some, sym}
+use Rattle.std.proofs.Common.{◌∙◌, ap, is_some}
 use Rattle.ffa_model.specs.Setup.{features_reply}
 use Rattle.ffa_spmc.specs.Managed.{Managed}
 use Rattle.ffa_spmc.proofs.Held.{normal-listed}

@@ -1,11 +1,11 @@
 -- SPDX-License-Identifier: MIT OR Apache-2.0
-use Rattle.std.proofs.Common.{◌≡◌, ◌∙◌, List, true, false, refl, sym, ap, subst}
+use Rattle.std.proofs.Common.{◌∙◌, List, true, false, refl, sym, ap, subst}
 use Rattle.std.specs.Prelude.{Option}
 use Rattle.ffa_model.specs.Buffers.{buffers_with_rx}
 use Rattle.ffa_model.specs.Ram.{Ram}
-use Rattle.ffa_model.specs.Setup.{informed, told_info_size, uuid_bytes}
+use Rattle.ffa_model.specs.Setup.{told_info_size, uuid_bytes}
 use Rattle.ffa_model.specs.State.{Buffers, version_of}
-use Rattle.ffa_spmc.specs.Meaning.{HasTables, IsManager, Parts, access_by_place, state_of}
+use Rattle.ffa_spmc.specs.Meaning.{HasTables, IsManager, access_by_place, state_of}
 use Rattle.ffa_spmc.proofs.Fills.{known-buffered, runner-there, rx-in-ram, tables-still}
 use Rattle.ffa_spmc.proofs.Information.{info-reply, informed-own, machine-informed, state-informed}
 use Rattle.ffa_spmc.specs.Managed.{Managed}

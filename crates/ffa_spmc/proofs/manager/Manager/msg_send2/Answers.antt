@@ -3,8 +3,7 @@ use Rattle.std.proofs.Common.{◌≡◌, ◌∙◌, Result, Err, sym, ap, subst}
 use Rattle.std.specs.Prelude.{OnErr}
 use Rattle.std.proofs.lemmas.Bool.{true≢false}
 use Rattle.ffa_model.specs.declared.call.Call.TheVariants.{MsgSend2}
-use Rattle.ffa_model.specs.declared.call.Reply.TheVariants.{Error}
-use Rattle.ffa_model.specs.Calls.{Stepped, replied, served, success}
+use Rattle.ffa_model.specs.Calls.{Stepped, replied, served}
 use Rattle.ffa_model.specs.Messages.{msg_send2}
 use Rattle.ffa_model.specs.Refusals.{is_error}
 use Rattle.ffa_model.specs.declared.operation.ErrorCode.{ErrorCode}

@@ -1,5 +1,4 @@
 -- SPDX-License-Identifier: MIT OR Apache-2.0
-use Rattle.std.proofs.Common.{sym}
 use Rattle.ffa_model.specs.MemoryReturn.{memory_reclaim}
 use Rattle.ffa_spmc.specs.Meaning.{Parts}
 use Rattle.ffa_spmc.proofs.Answered.{done-so}

@@ -70,7 +70,7 @@ pub returns-in-MemReclaim : goal.returns-in-MemReclaim
 returns-in-MemReclaim g c = answered-as c.args.self.now _ _ _ _ _ _ _ c.mem_reclaim.result c.in-MemReclaim.is c.mem_reclaim.ensures
 
 pub returns-in-Version : goal.returns-in-Version
-returns-in-Version g c = answered-beside c.args.self.now _ _ _ _ _ c.version.result c.in-Version.is refl (replied-still c.args.self.now _ c.version.result (search rules))
+returns-in-Version g c = answered-beside c.args.self.now _ _ _ _ _ c.ffa_version.result c.in-Version.is refl c.ffa_version.ensures
 
 pub returns-in-Features : goal.returns-in-Features
 returns-in-Features g c = answered-beside c.args.self.now _ _ _ _ _ c.features.result c.in-Features.is refl (replied-still c.args.self.now _ c.features.result (search rules))

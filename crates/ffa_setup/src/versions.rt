@@ -1,0 +1,81 @@
+// SPDX-License-Identifier: MIT OR Apache-2.0
+//! In which form each endpoint writes and reads.
+ghost use Rattle.std.specs.Prelude.{◌≡◌, ◌<◌, length, map, slice_index_or, slice_set};
+ghost use Rattle.ffa_model.specs.declared.endpoint.Version.TheVariants.{V1_1};
+ghost use Rattle.ffa_model.specs.Identifiers.{place};
+ghost use Rattle.ffa_model.specs.Setup.{form_of};
+
+use arrayvec::ArrayVec;
+use ffa_model::{EndpointId, MOST_ENDPOINTS, Manifest, Version};
+use std::marker::Model;
+
+/// Of each endpoint the form in which it writes and reads descriptors. They take no memory beyond themselves.
+#[derive(Drop)]
+pub struct Versions {
+    entries: ArrayVec<Version, MOST_ENDPOINTS>,
+}
+
+impl Model for Versions {
+    ghost use Rattle.std.specs.Prelude.{List};
+    ghost use Rattle.ffa_model.specs.declared.endpoint.Version as versions;
+
+    ghost Value = { List versions.Version };
+
+    ghost view = { λ v. v.entries.items };
+}
+
+impl Versions {
+    /// The forms that a manifest gives its endpoints.
+    pub fn of(manifest: &Manifest) -> Versions
+        ensures { result ≡ map (λ e. e.version) manifest.now.endpoints.items }
+    {
+        let mut entries = ArrayVec::new();
+        for endpoint in manifest.endpoints.as_slice() {
+            entries.push(endpoint.version);
+        }
+        Versions { entries }
+    }
+
+    /// The same forms once more. It takes no memory.
+    pub fn copy(&self) -> Versions
+        ensures { result ≡ self.now }
+    {
+        let mut entries = ArrayVec::new();
+        for entry in self.entries.as_slice() {
+            entries.push(*entry);
+        }
+        Versions { entries }
+    }
+
+    /// The form of an endpoint. An identifier that is no endpoint's is read at its place. It is the form of FF-A 1.1
+    /// where no endpoint has the place.
+    pub fn form_of(&self, endpoint: EndpointId) -> Version
+        ensures { result ≡ slice_index_or self.now (place endpoint.0) V1_1 }
+    {
+        let entries = self.entries.as_slice();
+        if endpoint.place() < entries.len() {
+            entries[endpoint.place()]
+        } else {
+            Version::V1_1
+        }
+    }
+
+    /// From now on an endpoint writes and reads in this form.
+    pub fn keep(&mut self, endpoint: EndpointId, version: Version)
+        requires { place endpoint.0 < length self.old }
+        ensures { self.new ≡ slice_set self.old (place endpoint.0) version }
+    {
+        self.entries.as_mut_slice()[endpoint.place()] = version;
+    }
+}
+
+/// The form of the version that a word of FFA_VERSION names: that of FF-A 1.0 is the compact one.
+pub fn form_of(word: u32) -> Version
+    ensures { result ≡ form_of word }
+{
+    if word % 0x1_0000 == 0 {
+        Version::Compact
+    } else {
+        Version::V1_1
+    }
+}
