@@ -133,7 +133,11 @@ fn message(registers: &[u64; 8], call: &mut Call) -> bool
     ensures call { call.new ≡ unwrap_or (called_in messages registers.now) call.old }
 {
     match w(registers, 0) {
-        FFA_MSG_WAIT => *call = Call::MsgWait,
+        FFA_MSG_WAIT => {
+            *call = Call::MsgWait {
+                flags: w(registers, 2),
+            }
+        }
         FFA_YIELD => *call = Call::Yield,
         FFA_RUN => {
             *call = Call::Run {

@@ -1,6 +1,6 @@
 -- SPDX-License-Identifier: MIT OR Apache-2.0
 -- Numbers are never refused for want of memory.
-use Rattle.std.proofs.Common.{◌≡◌, ◌≢◌, ◌∙◌, ℕ, Bool, true, false, List, [], ◌∷◌, ◌++◌, Option, None, Some, Result, Ok, Err, take, length, ap, refl, sym}
+use Rattle.std.proofs.Common.{◌≡◌, ◌≢◌, ◌∙◌, ℕ, Bool, true, false, List, [], ◌∷◌, ◌++◌, Option, None, Some, Result, Ok, Err, take, length, ap, sym}
 use Rattle.std.specs.Prelude.{IfErr, nat_le, if◌then◌else◌}
 use Rattle.std.specs.Option.{option_map}
 use Rattle.ffa_model.specs.declared.endpoint.Endpoint.{Endpoint}
@@ -9,7 +9,7 @@ use Rattle.ffa_model.specs.declared.limits.TheConstants.{MOST_ENDPOINTS, MOST_RE
 use Rattle.ffa_model.specs.declared.manifest.Ffa.{Ffa}
 use Rattle.ffa_model.specs.Manifest.{is_placed, regions_of}
 use Rattle.ffa_manifest.specs.Document.{Parts}
-use Rattle.ffa_manifest.specs.Parts.{Tests, endpoint_tests, first_cause, first_failure, parts_from, region_tests, tests_of, tests_of_each}
+use Rattle.ffa_manifest.specs.Parts.{Tests, endpoint_tests, first_cause, first_failure, region_tests, tests_of, tests_of_each}
 use Rattle.ffa_manifest.specs.Reading.{◌>>=◌, or_cause}
 use Rattle.ffa_manifest.specs.declared.error.ManifestError.{ManifestError}
 use Rattle.ffa_manifest.specs.declared.error.ManifestError.TheVariants.{NoMemory, WrongKind, EndpointCount, RegionCount, Version}
@@ -82,15 +82,18 @@ region-tests : (placed : Region → Bool) (taken : List Region) (r : Region) →
 unfolding region_tests
 region-tests placed taken r = (λ same. cc, (λ same. cc, tt))
 
-endpoint-tests : (placed : Region → Bool) (before : List Endpoint) (e : Endpoint) → AreInRoom (endpoint_tests placed before e)
+endpoint-tests : (ffa : Ffa) (placed : Region → Bool) (before : List Endpoint) (e : Endpoint) → AreInRoom (endpoint_tests ffa placed before e)
 unfolding endpoint_tests
-endpoint-tests placed before e = (
+endpoint-tests ffa placed before e = (
   λ same. cc,
   (
     λ same. cc,
     (
       λ same. cc,
-      all-in-room (λ own r. region_tests placed (regions_of before ++ own) r) [] e.regions.items (λ own r. region-tests placed (regions_of before ++ own) r),
+      (
+        λ same. cc,
+        all-in-room (λ own r. region_tests placed (regions_of before ++ own) r) [] e.regions.items (λ own r. region-tests placed (regions_of before ++ own) r),
+      ),
     ),
   ),
 )
@@ -99,7 +102,7 @@ machine-tests : (parts : Parts) → AreInRoom (tests_of parts)
 unfolding tests_of
 machine-tests parts =
     let placed = is_placed parts.ram_base parts.tables parts.ram_blocks (length parts.endpoints) in
-    (λ same. cc, (λ same. cc, (λ same. cc, (λ same. cc, all-in-room (endpoint_tests placed) [] parts.endpoints (endpoint-tests placed)))))
+    (λ same. cc, (λ same. cc, (λ same. cc, (λ same. cc, all-in-room (endpoint_tests parts.ffa placed) [] parts.endpoints (endpoint-tests parts.ffa placed)))))
 
 failure-in-room : (ts : Tests) (cause : ManifestError) → AreInRoom ts → first_failure ts ≡ Some cause → cause ≢ NoMemory
 failure-in-room [] cause each is same = cc
@@ -135,8 +138,3 @@ parts_told given es ffa told is =
     Ok (record { ram_base = given.ram_base; ram_blocks = given.ram_blocks; tables = given.tables; endpoints = es; ffa = ffa }) in
     ap (λ r. r >>= λ es. or_cause WrongKind (ffa_given given.ffa) >>= λ ffa. with_ffa es ffa) told
     ∙ ap (λ o. or_cause WrongKind o >>= λ ffa. with_ffa es ffa) (sym is)
-
--- no test of parts looks at the version of FF-A
-pub cause_aside : (parts : Parts) → first_cause parts ≡ first_cause (parts_from parts.ram_base parts.tables parts.ram_blocks parts.endpoints)
-unfolding first_cause tests_of
-cause_aside parts = refl

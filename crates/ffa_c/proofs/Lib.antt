@@ -6,4 +6,5 @@ pub mod HeldSteps
 pub mod Audits
 pub mod Given
 pub mod Numbers
+pub mod Versions
 pub mod RunSteps

@@ -11,7 +11,7 @@ use Rattle.std.proofs.lemmas.List.Elements.{All-append, All-cons, All-map, All-n
 use Rattle.ffa_model.specs.declared.endpoint.Endpoint.{Endpoint}
 use Rattle.ffa_model.specs.declared.endpoint.Region.{Region}
 use Rattle.ffa_model.specs.declared.endpoint.Version as versions
-use Rattle.ffa_model.specs.declared.endpoint.Version.TheVariants.{Compact, V1_1}
+use Rattle.ffa_model.specs.declared.endpoint.Version.TheVariants.{Compact, V1_1, V1_2}
 use Rattle.ffa_model.specs.declared.limits.TheConstants.{MOST_ENDPOINTS, MOST_REGIONS}
 use Rattle.ffa_model.specs.declared.manifest.Ffa.{Ffa}
 use Rattle.ffa_model.specs.declared.manifest.Ffa.TheVariants as served
@@ -20,7 +20,7 @@ use Rattle.ffa_model.specs.declared.rights.Data.TheVariants.{Ro, Rw}
 use Rattle.ffa_model.specs.declared.rights.Rights.{Rights}
 use Rattle.ffa_model.specs.Manifest.{are_apart, are_counted, are_identified, is_accepted, has_tables, is_from_to, is_placed, is_ram_base, is_ram_size, regions_of}
 use Rattle.ffa_manifest.specs.Document.{Parts}
-use Rattle.ffa_manifest.specs.Parts.{endpoint_tests, first_cause, tests_of, tests_of_each}
+use Rattle.ffa_manifest.specs.Parts.{are_versions, endpoint_tests, first_cause, tests_of, tests_of_each}
 use Rattle.ffa_manifest.specs.Reading.{◌>>=◌, or_cause}
 use Rattle.ffa_manifest.specs.declared.error.ManifestError.{ManifestError}
 use Rattle.ffa_manifest.specs.declared.error.ManifestError.TheVariants.{EndpointCount, RegionCount, Version, WrongKind}
@@ -46,6 +46,7 @@ rights-again r = of r.level r.exec
 version-again : (v : versions.Version) → version_given (version_number v) ≡ Some v
 version-again V1_1 = refl
 version-again Compact = refl
+version-again V1_2 = refl
 
 ffa-again : (w : Ffa) → ffa_given (ffa_number w) ≡ Some w
 ffa-again served.V1_1 = refl
@@ -109,7 +110,8 @@ parts-again parts small all =
 
 -- ---- an accepted manifest's parts make a machine
 
-module _ (parts : Parts) (good : is_accepted parts.ram_base parts.tables parts.ram_blocks parts.endpoints ≡ true) where
+module _ (parts : Parts) (good : is_accepted parts.ram_base parts.tables parts.ram_blocks parts.endpoints ≡ true)
+    (versioned : are_versions parts.ffa parts.endpoints ≡ true) where
   abbrev es : List Endpoint
   es = parts.endpoints
 
@@ -149,8 +151,8 @@ module _ (parts : Parts) (good : is_accepted parts.ram_base parts.tables parts.r
   no-cause : first_cause parts ≡ None
   unfolding first_cause tests_of
   no-cause =
-      let each = tests_of_each (endpoint_tests (is_placed parts.ram_base parts.tables parts.ram_blocks (length es))) [] es in
-      rw (base-good, blocks-good, count-good, room-good) (passed_tests parts.ram_base parts.tables parts.ram_blocks es good)
+      let each = tests_of_each (endpoint_tests parts.ffa (is_placed parts.ram_base parts.tables parts.ram_blocks (length es))) [] es in
+      rw (base-good, blocks-good, count-good, room-good) (passed_tests parts.ffa parts.ram_base parts.tables parts.ram_blocks es good versioned)
 
   pub numbers-give : Gives (numbers parts) parts
   numbers-give = record { told = parts-again parts (few MOST_ENDPOINTS (length es) count-good) counted-good; whole = no-cause }

@@ -8,6 +8,7 @@ use Rattle.ffa_model.specs.Processors.{first_processors}
 use Rattle.ffa_model.specs.Ram.{page_of}
 use Rattle.ffa_model.specs.SoundState.{IsSoundState}
 use Rattle.ffa_model.specs.State.{page_at}
+use Rattle.ffa_model.specs.declared.manifest.Ffa.TheVariants.{V1_1}
 use Rattle.ffa_manifest.specs.Document.{Parts, machine_of}
 use Rattle.ffa_manifest.specs.declared.error.ManifestError.{ManifestError}
 use Rattle.ffa_manifest.specs.declared.error.ManifestError.TheVariants as causes
@@ -98,11 +99,11 @@ TellsWhy describes is_cause None number = ⊤
 TellsWhy describes is_cause (Some pages) number =
     TellsCause is_cause number ⊎ IsWrongCount describes (length pages) number
 
--- a text describes these parts
+-- a text describes these parts, of a machine of FF-A 1.1
 abbrev pub Describes : List ℕ → Parts → Type 0
-Describes text parts = IsUtf8 text × (machine_of text ≡ Ok parts)
+Describes text parts = IsUtf8 text × (machine_of V1_1 text ≡ Ok parts)
 
 -- a text is refused for this cause: it is no UTF-8, or as its reading says; for want of memory any text may be
 pub record IsRefusedFor (text : List ℕ) (cause : ManifestError) : Type 0 where
   pub garbled : ¬ (IsUtf8 text) → cause ≡ causes.Toml
-  pub read : IsUtf8 text → cause ≢ causes.NoMemory → machine_of text ≡ Err cause
+  pub read : IsUtf8 text → cause ≢ causes.NoMemory → machine_of V1_1 text ≡ Err cause

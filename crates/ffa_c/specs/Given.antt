@@ -6,7 +6,7 @@ use Rattle.ffa_model.specs.declared.limits.TheConstants.{MOST_ENDPOINTS, MOST_RE
 use Rattle.ffa_model.specs.declared.endpoint.Endpoint.{Endpoint}
 use Rattle.ffa_model.specs.declared.endpoint.Region.{Region}
 use Rattle.ffa_model.specs.declared.endpoint.Version as versions
-use Rattle.ffa_model.specs.declared.endpoint.Version.TheVariants.{Compact, V1_1}
+use Rattle.ffa_model.specs.declared.endpoint.Version.TheVariants.{Compact, V1_1, V1_2}
 use Rattle.ffa_model.specs.declared.manifest.Ffa.{Ffa}
 use Rattle.ffa_model.specs.declared.manifest.Ffa.TheVariants as served
 use Rattle.ffa_model.specs.declared.rights.Rights.{Rights}
@@ -30,7 +30,8 @@ rights_given code =
     else None
 
 abbrev pub version_given : ℕ → Option versions.Version
-version_given code = if code == 0 then Some V1_1 else if code == 1 then Some Compact else None
+version_given code =
+    if code == 0 then Some V1_1 else if code == 1 then Some Compact else if code == 2 then Some V1_2 else None
 
 abbrev pub ffa_given : ℕ → Option Ffa
 ffa_given code = if code == 0 then Some served.V1_1 else if code == 1 then Some served.V1_2 else None

@@ -6,7 +6,7 @@ use Rattle.ffa_model.specs.declared.limits.TheConstants.{MOST_ENDPOINTS, MOST_RE
 use Rattle.ffa_model.specs.declared.endpoint.Endpoint.{Endpoint}
 use Rattle.ffa_model.specs.declared.endpoint.Region.{Region}
 use Rattle.ffa_model.specs.declared.endpoint.Version as versions
-use Rattle.ffa_model.specs.declared.endpoint.Version.TheVariants.{Compact, V1_1}
+use Rattle.ffa_model.specs.declared.endpoint.Version.TheVariants.{Compact, V1_1, V1_2}
 use Rattle.ffa_model.specs.declared.manifest.Ffa.{Ffa}
 use Rattle.ffa_model.specs.declared.manifest.Ffa.TheVariants as served
 use Rattle.ffa_manifest.specs.Document.{Parts}
@@ -23,6 +23,7 @@ padded places zero xs = xs ++ replicate (places - length xs) zero
 abbrev pub version_number : versions.Version → ℕ
 version_number V1_1 = 0
 version_number Compact = 1
+version_number V1_2 = 2
 
 abbrev pub ffa_number : Ffa → ℕ
 ffa_number served.V1_1 = 0

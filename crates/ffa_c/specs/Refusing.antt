@@ -4,6 +4,8 @@ use Rattle.std.specs.Prelude.{◌≡◌, ℕ, suc, ◌&&◌, nat_le, List, [], �
 use Rattle.ffa_model.specs.declared.endpoint.Endpoint.{Endpoint}
 use Rattle.ffa_model.specs.declared.endpoint.EndpointId.{EndpointId}
 use Rattle.ffa_model.specs.declared.limits.TheConstants.{MOST_ENDPOINTS, MOST_REGIONS}
+use Rattle.ffa_model.specs.declared.manifest.Ffa.{Ffa}
+use Rattle.ffa_model.specs.declared.manifest.Ffa.TheVariants.{V1_1}
 use Rattle.ffa_model.specs.Identifiers.{identifier}
 use Rattle.ffa_manifest.specs.declared.error.ManifestError.{ManifestError}
 use Rattle.ffa_manifest.specs.declared.parts_place.PartsPlace.{PartsPlace}
@@ -58,13 +60,13 @@ told_in (byte ∷ bytes) said = let n = min (length said) (length bytes) in take
 abbrev pub TellsWords : CRefusal → List ℕ → List ℕ → Type 0
 TellsWords told old new = (said : List ℕ) × (told.words ≡ length said) × (new ≡ told_in old said)
 
--- it is what the program's reader says of it
+-- it is what the program's reader says of it, for a machine of FF-A 1.1
 abbrev pub TellsText : List ℕ → CRefusal → Type 0
-TellsText text told = (its : ManifestRefusal) × IsRefused text its × IsToldOf text its told
+TellsText text told = (its : ManifestRefusal) × IsRefused V1_1 text its × IsToldOf text its told
 
--- it is that of a machine
+-- it is that of a machine of FF-A 1.1
 abbrev pub IsText : List ℕ → Type 0
-IsText text = IsUtf8 text × IsOk (machine_of text)
+IsText text = IsUtf8 text × IsOk (machine_of V1_1 text)
 
 -- OF NUMBERS
 -- in which region, counted from here, rights are given that there are none of
@@ -91,11 +93,15 @@ abbrev pub untold_place : CManifest → PartsPlace
 untold_place m =
     if nat_le m.endpoint_count MOST_ENDPOINTS then untold_from 0 (take m.endpoint_count m.endpoints) else nowhere
 
+-- where these endpoints make no machine of this version of FF-A: nowhere where there is no such version
+abbrev pub place_served : CManifest → List Endpoint → Option Ffa → PartsPlace
+place_served m es None = nowhere
+place_served m es (Some ffa) = place_of (parts_from ffa m.ram_base m.tables m.ram_blocks es)
+
 -- where numbers are refused: where they tell no endpoints, or else where the parts make no machine
 abbrev pub place_among : CManifest → Result (List Endpoint) ManifestError → PartsPlace
 place_among m (Err cause) = untold_place m
-place_among m (Ok es) =
-    if is_some (ffa_given m.ffa) then place_of (parts_from m.ram_base m.tables m.ram_blocks es) else nowhere
+place_among m (Ok es) = place_served m es (ffa_given m.ffa)
 
 abbrev pub given_place : CManifest → PartsPlace
 given_place m = place_among m (endpoints_given m)

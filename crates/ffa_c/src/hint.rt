@@ -97,6 +97,7 @@ fn access_size(version: Version) -> u64
     match version {
         Version::Compact => 0,
         Version::V1_1 => 16,
+        Version::V1_2 => 32,
     }
 }
 

@@ -30,7 +30,7 @@ pub struct CRegion {
 #[repr(C)]
 #[derive(Clone, Copy)]
 pub struct CEndpoint {
-    /// The form of its descriptors: 0 is that of FF-A 1.1, 1 the compact one.
+    /// The form of its descriptors: 0 is that of FF-A 1.1, 1 the compact one, 2 that of FF-A 1.2.
     pub version: u32,
     /// What it takes part in, as bits.
     pub properties: u32,
@@ -77,6 +77,7 @@ pub(crate) fn version_of(code: u32) -> Option<Version>
     match code {
         0 => Some(Version::V1_1),
         1 => Some(Version::Compact),
+        2 => Some(Version::V1_2),
         _ => None,
     }
 }
@@ -170,7 +171,7 @@ pub(crate) fn counted_endpoints(
 /// The manifest that C's numbers give, or the first cause for which they are refused. It takes no memory.
 // Not inlined, so that no boot has its frame.
 #[inline(never)]
-#[tactic(auto, using(crate::proofs::Given::parts_told, crate::proofs::Given::cause_aside))]
+#[tactic(auto, using(crate::proofs::Given::parts_told))]
 pub(crate) fn manifest_of_numbers(given: &CManifest) -> Result<Manifest, ManifestError>
     ensures given { IfOk result (λ m. Gives given.now (parts_of m)) }
     ensures refused { IfErr result (λ e. refusal_of (parts_given given.now) ≡ Some e) }
@@ -179,11 +180,11 @@ pub(crate) fn manifest_of_numbers(given: &CManifest) -> Result<Manifest, Manifes
     let Some(ffa) = ffa_of(given.ffa) else {
         return Err(ManifestError::WrongKind);
     };
-    let manifest = ffa_manifest::of_parts(
+    ffa_manifest::of_parts(
         given.ram_base,
         given.ram_blocks,
         PageNo(given.tables),
         endpoints,
-    )?;
-    Ok(manifest.with_ffa(ffa))
+        ffa,
+    )
 }

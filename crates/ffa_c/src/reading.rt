@@ -129,6 +129,7 @@ fn version_number(version: Version) -> u32
     match version {
         Version::V1_1 => 0,
         Version::Compact => 1,
+        Version::V1_2 => 2,
     }
 }
 

@@ -12,7 +12,7 @@ use crate::manifest::{
     region_of, version_of,
 };
 use ffa_manifest::{ManifestError, ManifestRefusal, PartsPlace, TextPlace, place_of_parts};
-use ffa_model::{EndpointId, MOST_ENDPOINTS, MOST_REGIONS, PageNo};
+use ffa_model::{EndpointId, Ffa, MOST_ENDPOINTS, MOST_REGIONS, PageNo};
 use std::alloc::Global;
 
 /// Why a manifest is refused, and where.
@@ -48,7 +48,7 @@ pub extern "C" fn gorseplumb_why_text(
     ensures words { result ≢ 0 → result ≢ NO_MEMORY → TellsWords refusal.new words.old words.new }
     ensures stays { (result ≡ 0) ⊎ (result ≡ NO_MEMORY) → (refusal.new ≡ refusal.old) × (words.new ≡ words.old) }
 {
-    match ffa_manifest::explain(alloc, text) {
+    match ffa_manifest::explain(alloc, text, Ffa::V1_1) {
         Ok(Ok(_)) => OK,
         Ok(Err(its)) => tell_text(alloc, text, &its, refusal, words),
         Err(_) => NO_MEMORY,
@@ -165,14 +165,15 @@ fn place_of_numbers(given: &CManifest) -> PartsPlace
     let Ok(endpoints) = counted_endpoints(given) else {
         return untold_place(given);
     };
-    if ffa_of(given.ffa).is_none() {
+    let Some(ffa) = ffa_of(given.ffa) else {
         return PartsPlace::nowhere();
-    }
+    };
     place_of_parts(
         given.ram_base,
         given.ram_blocks,
         PageNo(given.tables),
         endpoints.as_slice(),
+        ffa,
     )
 }
 

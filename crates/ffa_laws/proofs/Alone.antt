@@ -12,7 +12,7 @@ use Rattle.ffa_model.specs.declared.operation.Op.TheVariants.{Call, Load, Store,
 use Rattle.ffa_model.specs.declared.operation.Outcome.TheVariants.{Data, Done}
 use Rattle.ffa_model.specs.declared.operation.ErrorCode.{ErrorCode}
 use Rattle.ffa_model.specs.declared.call.Call as calls
-use Rattle.ffa_model.specs.declared.call.Call.TheVariants.{PartitionInfoGet, MemDonate, MemLend, MemShare, MemRetrieve, MemRelinquish, MemReclaim, MsgSend2, Version}
+use Rattle.ffa_model.specs.declared.call.Call.TheVariants.{PartitionInfoGet, MsgWait, MemDonate, MemLend, MemShare, MemRetrieve, MemRelinquish, MemReclaim, MsgSend2, Version}
 use Rattle.ffa_model.specs.declared.rights.Kind.{Kind}
 use Rattle.ffa_model.specs.declared.rights.Kind.TheVariants.{Share, Lend, Donate}
 use Rattle.ffa_model.specs.SendDescriptor.{SendRecord}
@@ -37,7 +37,7 @@ use Rattle.ffa_laws.specs.Events.{Event, Filled, Item, Own, Pending, Told, call_
 use Rattle.ffa_laws.specs.Isolation.{fills_rx_page, is_rx, is_send2}
 use Rattle.ffa_laws.specs.OwnAccess.{is_call}
 use Rattle.ffa_laws.specs.RunIntegrity.{RunIntegrity, is_quiet}
-use Rattle.ffa_laws.proofs.Form.{accessed-kept, served-kept}
+use Rattle.ffa_laws.proofs.Form.{accessed-kept, served-kept, waited-kept}
 use Rattle.ffa_laws.proofs.Holders.{handle_at-reheld}
 use Rattle.ffa_laws.proofs.Integrities.{page-kept}
 use Rattle.ffa_laws.proofs.Kept.{known-before}
@@ -86,6 +86,7 @@ module _ (s : State) (steady : IsSteady s) (e p : ℕ) (owned : owner_of s p ≡
   unnamed-service : (call : calls.Call) → first_failure (service s call).guards ≡ None → handle_at (service s call).state p ≡ None
   unnamed-service (PartitionInfoGet uuid flags) none = elim (is_count_alone flags) as (λ b. handle_at (cond b s (filled s s.runner (info_bytes (version_of s s.runner) s.parties (uuid_bytes uuid)))) p ≡ None) [ true ↦ unnamed | false ↦ unnamed ]
   unnamed-service (Version word) none = version-leaves (λ t. handle_at t p ≡ None) s.ffa s word unnamed (λ version. unnamed)
+  unnamed-service (MsgWait flags) none = waited-kept (λ t. handle_at t p ≡ None) s flags unnamed unnamed
   unnamed-service (MemDonate x) none = unnamed-sent Donate x none
   unnamed-service (MemLend x) none = unnamed-sent Lend x none
   unnamed-service (MemShare x) none = unnamed-sent Share x none
@@ -129,7 +130,7 @@ filled-rx : (e : ℕ) (s : State) (p : ℕ) → fills_rx_page s e p ≡ true →
 filled-rx e s p fills =
     let (none, its) = and_parts (is_none (first_failure (msg_send2 s).guards)) _ fills in
     let (receiver, rx) = and_parts ((header_in (tx_bytes s s.runner)).receiver == e) _ its in
-    let guards = send2_guards s.parties s.buffers s.runner (header_in (tx_bytes s s.runner)) in
+    let guards = send2_guards s.parties s.buffers (version_of s s.runner) s.runner (header_in (tx_bytes s s.runner)) in
     let known = guard-passes guards 4 (sym (passed (first_failure guards) none)) in
     (ap (is_known s) (sym (eqb-true (header_in (tx_bytes s s.runner)).receiver e receiver)) ∙ known, rx)
 

@@ -13,7 +13,7 @@ use Rattle.ffa_model.specs.declared.operation.Op.{Op}
 use Rattle.ffa_model.specs.declared.operation.Op.TheVariants.{Call, Load, Store, Fetch}
 use Rattle.ffa_model.specs.declared.operation.Outcome.TheVariants.{Data, Done}
 use Rattle.ffa_model.specs.declared.call.Call as calls
-use Rattle.ffa_model.specs.declared.call.Call.TheVariants.{PartitionInfoGet, MemDonate, MemLend, MemShare, MemRetrieve, MemRelinquish, MemReclaim, Version}
+use Rattle.ffa_model.specs.declared.call.Call.TheVariants.{PartitionInfoGet, MsgWait, MemDonate, MemLend, MemShare, MemRetrieve, MemRelinquish, MemReclaim, Version}
 use Rattle.ffa_model.specs.declared.rights.Kind.{Kind}
 use Rattle.ffa_model.specs.declared.rights.Kind.TheVariants.{Share, Lend, Donate}
 use Rattle.ffa_model.specs.declared.transaction.Receiver.{Receiver}
@@ -37,7 +37,7 @@ use Rattle.ffa_model.specs.Transactions.{holding, next_handle, not_holding, open
 use Rattle.byteorder.specs.Endian.{little_bytes}
 use Rattle.ffa_laws.specs.OwnAccess.{AreApart}
 use Rattle.ffa_laws.proofs.Closed.{get-remove}
-use Rattle.ffa_laws.proofs.Form.{accessed-kept, served-kept}
+use Rattle.ffa_laws.proofs.Form.{accessed-kept, served-kept, waited-kept}
 use Rattle.ffa_laws.proofs.Opened.{Transactions, get-insert}
 use Rattle.ffa_laws.proofs.Taken as retrieve
 use Rattle.ffa_laws.proofs.Versions.{version-leaves}
@@ -58,15 +58,15 @@ body-apart kind b is =
     let (accesses, ranges) = and_parts _ _ lists in
     nobody (sender_field b) (receiver_count b) (is_access_beside kind b) (receiver_in b) (λ i access. (let (one, distinct) = and_parts _ _ access in not-true _ (and_parts _ _ one).1)) accesses
 
-pub descriptor-apart : (kind : Kind) (b : Versioned) (r : SendRecord) → send_of kind b ≡ Some r → list_any (λ (x : Receiver). x.endpoint.0 == r.sender) r.receivers ≡ false
+pub descriptor-apart : (ffa : Ffa) (kind : Kind) (b : Versioned) (r : SendRecord) → send_of ffa kind b ≡ Some r → list_any (λ (x : Receiver). x.endpoint.0 == r.sender) r.receivers ≡ false
 unfolding send_of
-descriptor-apart kind b r is = of (is_header b && is_send_header kind b && is_composite b) is
+descriptor-apart ffa kind b r is = of (is_header b && is_send_header ffa kind b && is_composite b) is
   where
-    body : (c : Bool) → is_send_body kind b ≡ c → cond c (Some (send_in b)) None ≡ Some r → list_any (λ (x : Receiver). x.endpoint.0 == r.sender) r.receivers ≡ false
-    body true all same = subst (λ (x : SendRecord). list_any (λ (y : Receiver). y.endpoint.0 == x.sender) x.receivers ≡ false) (same_Some (send_in b) r same) (body-apart kind b all)
+    body : (c : Bool) → is_send_body kind b ≡ c → cond c (Some (send_in ffa kind b)) None ≡ Some r → list_any (λ (x : Receiver). x.endpoint.0 == r.sender) r.receivers ≡ false
+    body true all same = subst (λ (x : SendRecord). list_any (λ (y : Receiver). y.endpoint.0 == x.sender) x.receivers ≡ false) (same_Some (send_in ffa kind b) r same) (body-apart kind b all)
     body false all none = absurd (none-some r none)
 
-    of : (c : Bool) → send_counted c kind b ≡ Some r → list_any (λ (x : Receiver). x.endpoint.0 == r.sender) r.receivers ≡ false
+    of : (c : Bool) → send_counted c ffa kind b ≡ Some r → list_any (λ (x : Receiver). x.endpoint.0 == r.sender) r.receivers ≡ false
     of true same = body (is_send_body kind b) refl same
     of false none = absurd (none-some r none)
 
@@ -94,7 +94,7 @@ module _ (s : State) (apart : AreApart s) where
     where
       of : (o : Option SendRecord) → send_read s kind total ≡ o → AreApart (memory_sent s kind o)
       of None is = apart
-      of (Some r) is = with-one s.transactions (next_handle (open_of s) s.runner) (transaction_sent s kind r) apart (descriptor-apart kind (descriptor_in s total) r is)
+      of (Some r) is = with-one s.transactions (next_handle (open_of s) s.runner) (transaction_sent s kind r) apart (descriptor-apart s.ffa kind (descriptor_in s total) r is)
 
   apart-retrieved : (x : Transfer) → Taken s x → AreApart (memory_retrieve s x).state
   apart-retrieved x its = subst AreApart (sym (state-taken s x its)) (of its.of.kind)
@@ -117,6 +117,7 @@ module _ (s : State) (apart : AreApart s) where
   apart-service : (call : calls.Call) → first_failure (service s call).guards ≡ None → AreApart (service s call).state
   apart-service (PartitionInfoGet uuid flags) none = elim (is_count_alone flags) as (λ b. AreApart (cond b s (filled s s.runner (info_bytes (version_of s s.runner) s.parties (uuid_bytes uuid))))) [ true ↦ apart | false ↦ apart ]
   apart-service (Version word) none = version-leaves AreApart s.ffa s word apart (λ version. apart)
+  apart-service (MsgWait flags) none = waited-kept AreApart s flags apart apart
   apart-service (MemDonate x) none = apart-sent Donate x.total
   apart-service (MemLend x) none = apart-sent Lend x.total
   apart-service (MemShare x) none = apart-sent Share x.total

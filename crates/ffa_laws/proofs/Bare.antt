@@ -27,7 +27,7 @@ use Rattle.ffa_model.specs.Notifications.{class_of, has_bitmaps_in, manager_clas
 use Rattle.ffa_model.specs.Registers.{decode}
 use Rattle.ffa_model.specs.Rights.{may_store}
 use Rattle.ffa_model.specs.SendDescriptor.{SendRecord}
-use Rattle.ffa_model.specs.State.{State, Page, Buffers, buffers_of, is_known}
+use Rattle.ffa_model.specs.State.{State, Page, Buffers, buffers_of, is_known, version_of}
 use Rattle.ffa_model.specs.Step.{serve, service}
 use Rattle.ffa_model.specs.Transactions.{next_handle, open_of}
 use Rattle.ffa_model.proofs.Accesses.{length-map_at}
@@ -169,7 +169,7 @@ module _ (e : ℕ) (s : State) where
   fits : is_known s e ≡ true → first_failure (msg_send2 s).guards ≡ None → (header.receiver == e) ≡ true → length (message_in (tx_bytes s s.runner)) ≤ room_of (buffers_of v e)
   fits known none mine =
       let room : header.offset + header.size ≤ room_of (buffers_of s header.receiver) =
-      leb-true (header.offset + header.size) (room_of (buffers_of s header.receiver)) (guard-passes (send2_guards s.parties s.buffers s.runner header) 13 (sym none)) in
+      leb-true (header.offset + header.size) (room_of (buffers_of s header.receiver)) (guard-passes (send2_guards s.parties s.buffers (version_of s s.runner) s.runner header) 13 (sym none)) in
       let cut : length (message_in (tx_bytes s s.runner)) ≤ header.offset + header.size = take-most (header.offset + header.size) (tx_bytes s s.runner) in
       subst (λ o. length (message_in (tx_bytes s s.runner)) ≤ room_of o) (ap (buffers_of s) (eqb-true header.receiver e mine) ∙ sym (own-buffers e s known)) (omega (arith, room, cut))
 

@@ -15,7 +15,7 @@ use Rattle.ffa_model.specs.declared.operation.Outcome.{Outcome}
 use Rattle.ffa_model.specs.declared.operation.Outcome.TheVariants.{Regs, Data, Done}
 use Rattle.ffa_model.specs.declared.call.Reply.TheVariants.{Retrieved}
 use Rattle.ffa_model.specs.declared.call.Call as calls
-use Rattle.ffa_model.specs.declared.call.Call.TheVariants.{RxtxMap, PartitionInfoGet, MemDonate, MemLend, MemShare, MemRetrieve, MemRelinquish, MemReclaim, MsgSend2, Version}
+use Rattle.ffa_model.specs.declared.call.Call.TheVariants.{RxtxMap, PartitionInfoGet, MsgWait, MemDonate, MemLend, MemShare, MemRetrieve, MemRelinquish, MemReclaim, MsgSend2, Version}
 use Rattle.ffa_model.specs.declared.rights.Kind.{Kind}
 use Rattle.ffa_model.specs.declared.rights.Kind.TheVariants.{Share, Lend, Donate}
 use Rattle.ffa_model.specs.declared.rights.Rights.{Rights}
@@ -39,6 +39,7 @@ use Rattle.ffa_model.specs.MemorySend.{is_told_normal, memory_send, memory_sent,
 use Rattle.ffa_model.specs.DescriptorPlaces.{in_version}
 use Rattle.ffa_model.specs.Messages.{delivered, header_in, message_in, msg_send2, send2_guards, tx_bytes}
 use Rattle.ffa_model.specs.Registers.{decode}
+use Rattle.ffa_model.specs.RunStates.{keeps_rx, waited}
 use Rattle.ffa_model.specs.Setup.{info_bytes, is_count_alone, uuid_bytes}
 use Rattle.ffa_model.specs.Step.{serve, service, step}
 use Rattle.ffa_model.specs.declared.call.Transfer.{Transfer}
@@ -260,9 +261,9 @@ module _ (s : State) (hides : ℕ → Bool) where
     send-o : (kind : Kind) (x : Transfer) → take x.total (tx_bytes o s.runner) ≡ take x.total (tx_bytes s s.runner) → Alike (memory_send o kind x) (memory_send s kind x)
     send-o kind x part =
         record {
-          guards = λ i. first_failure (send_guards (scene-o i) s.runner x (send_of kind (in_version (version_of s s.runner) (part i))));
+          guards = λ i. first_failure (send_guards (scene-o i) s.runner x (send_of s.ffa kind (in_version (version_of s s.runner) (part i))));
           reply = refl;
-          state = ap (λ said. blank hides (memory_sent o kind (send_of kind (in_version (version_of s s.runner) said)))) part ∙ sent-o kind (send_read s kind x.total);
+          state = ap (λ said. blank hides (memory_sent o kind (send_of s.ffa kind (in_version (version_of s s.runner) said)))) part ∙ sent-o kind (send_read s kind x.total);
         }
 
     retrieved-o : (at : Option RetrieveDesc) → blank hides (retrieved o at) ≡ blank hides (retrieved s at)
@@ -322,7 +323,7 @@ module _ (s : State) (hides : ℕ → Bool) where
     send2-o : tx_bytes o s.runner ≡ tx_bytes s s.runner → Alike (msg_send2 o) (msg_send2 s)
     send2-o tx-o =
         record {
-          guards = λ i. first_failure (send2_guards s.parties s.buffers s.runner (header_in (tx-o i)));
+          guards = λ i. first_failure (send2_guards s.parties s.buffers (version_of s s.runner) s.runner (header_in (tx-o i)));
           reply = refl;
           state =
               ap (λ tx. blank hides (delivered o (header_in tx).receiver (message_in tx))) tx-o
@@ -355,6 +356,15 @@ module _ (s : State) (hides : ℕ → Bool) where
           state = elim (is_count_alone flags) as (λ c. blank hides (cond c o (filled o s.runner (info_bytes (version_of s s.runner) s.parties (uuid_bytes uuid)))) ≡ blank hides (cond c s (filled s s.runner (info_bytes (version_of s s.runner) s.parties (uuid_bytes uuid))))) [
             | true ↦ twice-o
             | false ↦ λ i. record (filled s s.runner (info_bytes (version_of s s.runner) s.parties (uuid_bytes uuid))) { pages = filled-o (info_bytes (version_of s s.runner) s.parties (uuid_bytes uuid)) (buffers_of s s.runner) i }
+          ];
+        }
+    service-o (MsgWait flags) part =
+        record {
+          guards = refl;
+          reply = refl;
+          state = elim (keeps_rx (version_of s s.runner) flags) as (λ c. blank hides (waited o c) ≡ blank hides (waited s c)) [
+            | true ↦ λ i. record (waited s true) { pages = same i }
+            | false ↦ λ i. record (waited s false) { pages = same i }
           ];
         }
     service-o (MemDonate x) part = send-o Donate x part

@@ -4,7 +4,9 @@ use Rattle.std.proofs.Common.{◌≡◌, ◌∙◌, ℕ, Bool, true, false, List
 use Rattle.ffa_model.specs.declared.operation.ErrorCode.{ErrorCode}
 use Rattle.ffa_model.specs.declared.operation.Outcome.{Outcome}
 use Rattle.ffa_model.specs.declared.operation.FaultKind.{FaultKind}
-use Rattle.ffa_model.specs.State.{State}
+use Rattle.ffa_model.specs.State.{State, version_of}
+use Rattle.ffa_model.specs.Buffers.{with_rx}
+use Rattle.ffa_model.specs.RunStates.{finished, keeps_rx, msg_wait, schedule_of, waited, with_schedule}
 use Rattle.ffa_model.specs.Calls.{Service, Stepped, answered, first_failure, replied, served}
 use Rattle.ffa_model.specs.Memory.{accessed}
 use Rattle.ffa_laws.specs.View.{view}
@@ -38,6 +40,14 @@ served-kept P s c old change = go (first_failure c.guards) change
     go : (g : Option ErrorCode) → (g ≡ None → P c.state) → P (answered g s c.state c.reply).state
     go None change = change refl
     go (Some code) change = old
+
+-- what holds of a state in which the caller waits, with its RX as it is and with an empty one, holds after FFA_MSG_WAIT
+pub waited-kept : (P : State → Type 0) (s : State) (flags : ℕ) → P (with_schedule s (finished (schedule_of s) 0))
+    → P (with_rx (with_schedule s (finished (schedule_of s) 0)) s.runner false) → P (msg_wait s flags).state
+waited-kept P s flags kept emptied = elim (keeps_rx (version_of s s.runner) flags) as (λ b. P (waited s b)) [ true ↦ kept | false ↦ emptied ]
+
+pub waited-runs : (s : State) (flags : ℕ) → schedule_of (msg_wait s flags).state ≡ finished (schedule_of s) 0
+waited-runs s flags = waited-kept (λ t. schedule_of t ≡ finished (schedule_of s) 0) s flags refl refl
 
 -- an access, alike
 pub accessed-own : (e : ℕ) (s new seen : State) (outcome told : Outcome) (failure guessed : Option FaultKind) → guessed ≡ failure

@@ -17,7 +17,7 @@ use Rattle.ffa_model.specs.MemoryReturn.{named_ranges, relinquish_read, relinqui
 use Rattle.ffa_model.specs.Registers.{decode}
 use Rattle.ffa_model.specs.SendDescriptor.{SendRecord}
 use Rattle.ffa_model.specs.Rights.{may_store}
-use Rattle.ffa_model.specs.State.{State, Page, Transaction, Buffers, page_at, owner_of, buffers_of, is_known, transaction_of}
+use Rattle.ffa_model.specs.State.{State, Page, Transaction, Buffers, page_at, owner_of, buffers_of, is_known, transaction_of, version_of}
 use Rattle.ffa_model.specs.Access.{access, handle_at, is_naming, names, right_of}
 use Rattle.ffa_model.specs.Buffers.{filled_pages}
 use Rattle.ffa_model.specs.Memory.{access_at, size_of, store_fault, zeroed_if, zeroed_page}
@@ -81,7 +81,7 @@ module _ (s : State) (steady : IsSteady s) (e p : ℕ) (owned : owner_of s p ≡
           ]
 
   delivered_elsewhere : (message : Bool) → (message && fills_rx_page s e p) ≡ false → message ≡ true
-      → first_failure (send2_guards s.parties s.buffers s.runner (header_in (tx_bytes s s.runner))) ≡ None
+      → first_failure (send2_guards s.parties s.buffers (version_of s s.runner) s.runner (header_in (tx_bytes s s.runner))) ≡ None
       → page_in (filled_pages s.pages (message_in (tx_bytes s s.runner)) (buffers_of s (header_in (tx_bytes s s.runner)).receiver)) p ≡ page_in s.pages p
   delivered_elsewhere message not_bound is passed =
       elsewhere-filled s.pages receiver (message_in (tx_bytes s s.runner)) known (λ b buffers q its same.
@@ -96,7 +96,7 @@ module _ (s : State) (steady : IsSteady s) (e p : ℕ) (owned : owner_of s p ≡
       receiver = (header_in (tx_bytes s s.runner)).receiver
 
       known : is_known s receiver ≡ true
-      known = guard-passes (send2_guards s.parties s.buffers s.runner (header_in (tx_bytes s s.runner))) 4 (sym passed)
+      known = guard-passes (send2_guards s.parties s.buffers (version_of s s.runner) s.runner (header_in (tx_bytes s s.runner))) 4 (sym passed)
 
   by-runner : (ps : List (Option Page)) (bytes : List ℕ) → page_in (filled_pages ps bytes (buffers_of s s.runner)) p ≡ page_in ps p
   by-runner ps bytes = elsewhere-filled ps s.runner bytes steady.runner (λ b is. of_another s.runner b steady.runner is other)

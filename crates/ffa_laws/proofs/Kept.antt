@@ -12,7 +12,7 @@ use Rattle.ffa_model.specs.declared.operation.Size.{Size}
 use Rattle.ffa_model.specs.declared.rights.Kind.{Kind}
 use Rattle.ffa_model.specs.declared.rights.Kind.TheVariants.{Share, Lend, Donate}
 use Rattle.ffa_model.specs.declared.call.Call as calls
-use Rattle.ffa_model.specs.declared.call.Call.TheVariants.{PartitionInfoGet, MemDonate, MemLend, MemShare, MemRetrieve, MemRelinquish, MemReclaim, MsgSend2, Version}
+use Rattle.ffa_model.specs.declared.call.Call.TheVariants.{PartitionInfoGet, MsgWait, MemDonate, MemLend, MemShare, MemRetrieve, MemRelinquish, MemReclaim, MsgSend2, Version}
 use Rattle.ffa_model.specs.Registers.{decode}
 use Rattle.ffa_model.specs.SendDescriptor.{SendRecord}
 use Rattle.ffa_model.specs.State.{State, Page, Party, buffers_of, is_known, is_known_among, transaction_of, version_of}
@@ -28,7 +28,7 @@ use Rattle.ffa_model.specs.Step.{serve, service, step}
 use Rattle.ffa_laws.specs.Isolation.{is_send2}
 use Rattle.ffa_laws.specs.OwnAccess.{is_call, is_memory_call}
 use Rattle.ffa_laws.proofs.Versions.{version-leaves}
-use Rattle.ffa_laws.proofs.Form.{accessed-kept, served-kept}
+use Rattle.ffa_laws.proofs.Form.{accessed-kept, served-kept, waited-kept}
 
 -- ---- the endpoints stay the same, and where RAM and the tables begin
 abbrev pub fixed : State → List Party × (ℕ × ℕ)
@@ -49,6 +49,7 @@ relinquished-fixed s (Some d) = elim (transaction_of s d.handle) as (λ o. fixed
 service-fixed : (s : State) (call : calls.Call) → fixed (service s call).state ≡ fixed s
 service-fixed s (PartitionInfoGet uuid flags) = elim (is_count_alone flags) as (λ b. fixed (cond b s (filled s s.runner (info_bytes (version_of s s.runner) s.parties (uuid_bytes uuid)))) ≡ fixed s) [ true ↦ refl | false ↦ refl ]
 service-fixed s (Version word) = version-leaves (λ t. fixed t ≡ fixed s) s.ffa s word refl (λ version. refl)
+service-fixed s (MsgWait flags) = waited-kept (λ t. fixed t ≡ fixed s) s flags refl refl
 service-fixed s (MemDonate x) = sent-fixed s Donate (send_read s Donate x.total)
 service-fixed s (MemLend x) = sent-fixed s Lend (send_read s Lend x.total)
 service-fixed s (MemShare x) = sent-fixed s Share (send_read s Share x.total)
@@ -79,7 +80,7 @@ place-step s op = ap (λ parts. parts.1.1) (step-fixed s op)
 -- leaves, where it holds of those that a call on memory transactions leaves.
 module _ (R : List (Option Page) → Type 0) (s : State) (same : R s.pages) (by_info : (bytes : List ℕ) → R (filled_pages s.pages bytes (buffers_of s s.runner))) where
   abbrev send_failure : Option ErrorCode
-  send_failure = first_failure (send2_guards s.parties s.buffers s.runner (header_in (tx_bytes s s.runner)))
+  send_failure = first_failure (send2_guards s.parties s.buffers (version_of s s.runner) s.runner (header_in (tx_bytes s s.runner)))
 
   abbrev sent_pages : List (Option Page)
   sent_pages = filled_pages s.pages (message_in (tx_bytes s s.runner)) (buffers_of s (header_in (tx_bytes s s.runner)).receiver)
@@ -98,6 +99,7 @@ module _ (R : List (Option Page) → Type 0) (s : State) (same : R s.pages) (by_
         | false ↦ by_info (info_bytes (version_of s s.runner) s.parties (uuid_bytes uuid))
       ]
   kept-service (Version word) by_send by_memory none = version-leaves (λ t. R t.pages) s.ffa s word same (λ version. same)
+  kept-service (MsgWait flags) by_send by_memory none = waited-kept (λ t. R t.pages) s flags same same
   kept-service (MemDonate x) by_send by_memory none = by_memory refl none
   kept-service (MemLend x) by_send by_memory none = by_memory refl none
   kept-service (MemShare x) by_send by_memory none = by_memory refl none

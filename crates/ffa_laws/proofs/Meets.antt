@@ -14,7 +14,7 @@ use Rattle.ffa_model.specs.declared.call.NotificationBits.{NotificationBits}
 use Rattle.ffa_model.specs.Rights.{may_store}
 use Rattle.ffa_model.specs.Transactions.{not_holding}
 use Rattle.ffa_model.specs.SoundState.{IsSoundState}
-use Rattle.ffa_model.specs.State.{State, Page, Transaction, buffers_of, is_known, page_at, transaction_of}
+use Rattle.ffa_model.specs.State.{State, Page, Transaction, buffers_of, is_known, page_at, transaction_of, version_of}
 use Rattle.ffa_model.specs.Access.{access, is_from, right_of, transaction_at}
 use Rattle.ffa_model.specs.Bits.{bits_of, is_set, word_where}
 use Rattle.ffa_model.specs.Calls.{first_failure}
@@ -130,7 +130,7 @@ module _ (e : ℕ) (s : State) (sound : IsSoundState s) (known : is_known s e �
       let filling = Filled (message_in (tx_bytes s s.runner)) in
       met-where e v (header.receiver == e) (filling ∷ where_true (has_bitmaps_in (notifications_of s) e) (Pending manager_class message_bits ∷ [])) (λ mine. (
         ap is_some (own-buffers e s known ∙ ap (buffers_of s) (sym (eqb-true header.receiver e mine)))
-            ∙ guard-passes (send2_guards s.parties s.buffers s.runner header) 11 (sym none),
+            ∙ guard-passes (send2_guards s.parties s.buffers (version_of s s.runner) s.runner header) 11 (sym none),
         met-where e (apply e v filling) (has_bitmaps_in (notifications_of s) e) (Pending manager_class message_bits ∷ []) (λ has. (own-bitmaps e s known ∙ has, tt)),
       ))
 

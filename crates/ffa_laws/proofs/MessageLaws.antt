@@ -7,11 +7,11 @@ use Rattle.ffa_model.proofs.Runs.{flat-run-same}
 use Rattle.ffa_model.specs.declared.refusal.Refusal.TheVariants.{BuffersMissing, FlagsReserved, HeaderReserved, SenderIsAnother, ReceiverUnknown, ReceiverIsCaller, MessageInHeader, MessageEmpty, MessageTooLong, MessagesUnsent, MessagesUnreceived, ReceiverBuffersMissing, ReceiverRxFull, ReceiverRxSmall}
 use Rattle.ffa_model.specs.declared.operation.ErrorCode.{ErrorCode}
 use Rattle.ffa_model.specs.Identifiers.{place}
-use Rattle.ffa_model.specs.State.{State, Page, Buffers, buffers_of, has_property, is_known, is_known_among}
+use Rattle.ffa_model.specs.State.{State, Page, Buffers, buffers_of, has_property, is_known, is_known_among, version_of}
 use Rattle.ffa_model.specs.Memory.{page_bytes, run_bytes}
 use Rattle.ffa_model.specs.Buffers.{buffers_in, buffers_with_rx, filled, filled_pages, is_full, room_of}
 use Rattle.ffa_model.specs.Calls.{first_failure}
-use Rattle.ffa_model.specs.Messages.{MessageHeader, delivered, header_in, message_in, msg_send2, send2_guards, tx_bytes}
+use Rattle.ffa_model.specs.Messages.{MessageHeader, delivered, header_in, message_header_size, message_in, msg_send2, send2_guards, tx_bytes}
 use Rattle.ffa_model.specs.Notifications.{manager_class, notifications_of, message_bits, has_bitmaps_in, with_pending}
 use Rattle.ffa_model.specs.RunStates.{schedule_of}
 use Rattle.ffa_laws.specs.Steady.{IsSteady}
@@ -27,6 +27,7 @@ use Rattle.ffa_laws.proofs.Steadies.{alone-near, steady-notified}
 use Rattle.ffa_laws.proofs.Told.{IsTold}
 use Rattle.ffa_laws.proofs.Raised.{own-bitmaps, pending-applied, raised, raised-absent, raised-hidden, raised-own}
 use Rattle.ffa_laws.proofs.BufferLaws.{far-repaged, own-buffers, seen-full, seen-room, seen-some, steady-filled, view-buffers, view-filled_other}
+use Rattle.ffa_laws.proofs.Versions.{version-seen}
 
 pub not-same : (a b : ℕ) → not (a == b) ≡ true → a ≢ b
 not-same a b is same = grind (arith, nat_tests)
@@ -50,8 +51,8 @@ module _ (s : State) (steady : IsSteady s) where
   pub room-seen : (f : ℕ) → room_of (buffers_in (view s.runner s).buffers f) ≡ room_of (buffers_in s.buffers f)
   room-seen f = ap room_of (view-buffers s.runner f s) ∙ seen-room s.runner (length s.pages) (place f) (buffers_of s f)
 
-  -- that buffers are there, their size and that RX is full is all that the checks ask of them
-  same-guards : (m : MessageHeader) → send2_guards s.parties (view s.runner s).buffers s.runner m ≡ send2_guards s.parties s.buffers s.runner m
+  -- that buffers are there, their size, that RX is full, and the runner's form are all that the checks ask for
+  same-guards : (m : MessageHeader) → send2_guards s.parties (view s.runner s).buffers (version_of (view s.runner s) s.runner) s.runner m ≡ send2_guards s.parties s.buffers (version_of s s.runner) s.runner m
   same-guards m = λ i.
       (some-seen s.runner i, BuffersMissing)
       ∷ (m.flags == 0, FlagsReserved)
@@ -59,7 +60,7 @@ module _ (s : State) (steady : IsSteady s) where
       ∷ (m.sender == s.runner, SenderIsAnother)
       ∷ (is_known_among (length s.parties) m.receiver, ReceiverUnknown)
       ∷ (not (m.receiver == s.runner), ReceiverIsCaller)
-      ∷ (nat_le 20 m.offset, MessageInHeader)
+      ∷ (nat_le (message_header_size (version-seen s.runner s steady.runner i)) m.offset, MessageInHeader)
       ∷ (not (m.size == 0), MessageEmpty)
       ∷ (nat_le (m.offset + m.size) (room-seen s.runner i), MessageTooLong)
       ∷ (has_property s.parties s.runner 2, MessagesUnsent)
@@ -70,7 +71,7 @@ module _ (s : State) (steady : IsSteady s) where
       ∷ []
 
   abbrev failure : Option ErrorCode
-  failure = first_failure (send2_guards s.parties s.buffers s.runner (header_in (tx_bytes s s.runner)))
+  failure = first_failure (send2_guards s.parties s.buffers (version_of s s.runner) s.runner (header_in (tx_bytes s s.runner)))
 
   abbrev receiver : ℕ
   receiver = (header_in (tx_bytes s s.runner)).receiver
@@ -79,14 +80,14 @@ module _ (s : State) (steady : IsSteady s) where
   bytes = message_in (tx_bytes s s.runner)
 
   receiver-known : failure ≡ None → is_known s receiver ≡ true
-  receiver-known none = guard-passes (send2_guards s.parties s.buffers s.runner (header_in (tx_bytes s s.runner))) 4 (sym none)
+  receiver-known none = guard-passes (send2_guards s.parties s.buffers (version_of s s.runner) s.runner (header_in (tx_bytes s s.runner))) 4 (sym none)
 
   receiver-other : failure ≡ None → receiver ≢ s.runner
-  receiver-other none = not-same receiver s.runner (guard-passes (send2_guards s.parties s.buffers s.runner (header_in (tx_bytes s s.runner))) 5 (sym none))
+  receiver-other none = not-same receiver s.runner (guard-passes (send2_guards s.parties s.buffers (version_of s s.runner) s.runner (header_in (tx_bytes s s.runner))) 5 (sym none))
 
   pub own-send2 : IsOwn s (msg_send2 (view s.runner s)) (msg_send2 s)
   own-send2 = (
-    ap (λ tx. first_failure (send2_guards s.parties (view s.runner s).buffers s.runner (header_in tx))) tx-seen ∙ ap first_failure (same-guards (header_in (tx_bytes s s.runner))),
+    ap (λ tx. first_failure (send2_guards s.parties (view s.runner s).buffers (version_of (view s.runner s) s.runner) s.runner (header_in tx))) tx-seen ∙ ap first_failure (same-guards (header_in (tx_bytes s s.runner))),
     λ none. (
       ap (λ tx. delivered (view s.runner s) (header_in tx).receiver (message_in tx)) tx-seen
           ∙ ap (λ v. raised v receiver manager_class message_bits) (view-filled_other s.runner receiver s bytes steady steady.runner (receiver-known none) (receiver-other none))

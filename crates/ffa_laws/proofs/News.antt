@@ -317,7 +317,7 @@ module _ (e : ℕ) (s : State) (steady : IsSteady s) where
   rising-word word = rising-filter (λ k. is_set k word) 0 (listed 64 (λ k. k)) (rising-from 0 64 (λ k. k) (λ i. omega arith))
 
   news-told : (call : calls.Call) → first_failure (service s call).guards ≡ None → AreNews e v (told_by e s call)
-  news-told MsgWait none = repeats e v _ _ refl
+  news-told (MsgWait flags) none = repeats e v _ _ refl
   news-told Yield none = repeats e v _ _ refl
   news-told (Run target context) none = repeats e v _ _ refl
   news-told (DirectRequest message) none = repeats e v _ _ refl

@@ -16,7 +16,7 @@ use Rattle.ffa_model.specs.Lists.{listed, map_at}
 use Rattle.ffa_model.specs.Identifiers.{identifier}
 use Rattle.ffa_model.specs.State.{State, is_known, is_known_among}
 use Rattle.ffa_model.specs.Calls.{first_failure}
-use Rattle.ffa_model.specs.Notifications.{Notifications, binding, bitmap_create, bitmap_destroy, class_of_entry, class_of, destroy_guards, create_guards, get_reply, has_bitmaps_in, has_pending, is_bindable, is_bound, is_bound_to_another, is_pending, is_unbindable, manager_class, normal_class, notification_bind, notification_get, notification_set, notification_unbind, notifications_of, partition_class, receiver_bit, receiver_of_entry, sender_of_entry, set_guards, with_bound, with_notifications, without_bitmaps, without_bound}
+use Rattle.ffa_model.specs.Notifications.{Notifications, binding, bitmap_create, bitmap_destroy, class_of_entry, class_of, destroy_guards, create_guards, get_reply, has_bitmaps_in, has_pending, is_bindable, is_bound, is_bound_to_another, is_context, is_context_count, is_pending, is_unbindable, manager_class, normal_class, notification_bind, notification_get, notification_set, notification_unbind, notifications_of, partition_class, receiver_bit, receiver_of_entry, sender_of_entry, set_guards, with_bound, with_notifications, without_bitmaps, without_bound}
 use Rattle.ffa_laws.specs.Steady.{IsSteady, IsSteadyBinding}
 use Rattle.ffa_laws.specs.View.{view}
 use Rattle.ffa_laws.specs.Events.{Bound, Event, Pending, Unbound, apply_all, binds, public_change, sets, unbinds, where_true}
@@ -96,13 +96,13 @@ module _ (s : State) (steady : IsSteady s) where
   pub own-create : (endpoint contexts : ℕ) → IsOwn s (bitmap_create v endpoint contexts) (bitmap_create s endpoint contexts)
   own-create endpoint contexts = (
     same-first (s.runner == 0) denied
-        ((endpoint == 0, invalid) ∷ (contexts == 1, invalid) ∷ (not (has_bitmaps_in nv 0), denied) ∷ [])
-        ((endpoint == 0, invalid) ∷ (contexts == 1, invalid) ∷ (not (has_bitmaps_in n 0), denied) ∷ []) (λ is_first. (
+        ((endpoint == 0, invalid) ∷ (is_context_count s.ffa contexts, invalid) ∷ (not (has_bitmaps_in nv 0), denied) ∷ [])
+        ((endpoint == 0, invalid) ∷ (is_context_count s.ffa contexts, invalid) ∷ (not (has_bitmaps_in n 0), denied) ∷ []) (λ is_first. (
         let first : s.runner ≡ 0 = eqb-true s.runner 0 is_first in
         let same : has_bitmaps_in nv 0 ≡ has_bitmaps_in n 0 = subst (λ e. has_bitmaps_in nv e ≡ has_bitmaps_in n e) first (own-bitmaps s.runner s steady.runner) in
-        λ i. first_failure ((endpoint == 0, invalid) ∷ (contexts == 1, invalid) ∷ (not (same i), denied) ∷ []))),
+        λ i. first_failure ((endpoint == 0, invalid) ∷ (is_context_count s.ffa contexts, invalid) ∷ (not (same i), denied) ∷ []))),
     λ none. (
-      (let is_first : (s.runner == 0) ≡ true = guard-passes (create_guards n s.runner endpoint contexts) 0 (sym none) in
+      (let is_first : (s.runner == 0) ≡ true = guard-passes (create_guards s.ffa n s.runner endpoint contexts) 0 (sym none) in
           let first : (0 == s.runner) ≡ true = eq-eqb 0 s.runner (sym (eqb-true s.runner 0 is_first)) in
           λ i. record v { bitmaps = sym (map_at-set (λ j has. identifier j == s.runner && has) s.bitmaps 0 true ∙ ap (λ b. set v.bitmaps 0 (b && true)) first) i }),
       refl,
@@ -210,7 +210,7 @@ module _ (s : State) (steady : IsSteady s) where
   own-get receiver context flags = (
     (λ i. first_failure (
         (receiver == s.runner, invalid)
-        ∷ (context == 0, invalid)
+        ∷ (is_context s.ffa s.runner context, invalid)
         ∷ (nat_le flags 15, invalid)
         ∷ (own-bitmaps s.runner s steady.runner i, denied)
         ∷ [])),
@@ -393,7 +393,7 @@ module _ (e : ℕ) (s : State) where
     pub other-create : (endpoint contexts : ℕ) → IsTold e s (bitmap_create s endpoint contexts) []
     other-create endpoint contexts none =
         told-notified (bitmap_create s endpoint contexts).state (view e s) [] refl refl refl
-        (λ i. record (view e s) { bitmaps = bitmaps-away true (first-away (guard-passes (create_guards (notifications_of s) s.runner endpoint contexts) 0 (sym none))) i })
+        (λ i. record (view e s) { bitmaps = bitmaps-away true (first-away (guard-passes (create_guards s.ffa (notifications_of s) s.runner endpoint contexts) 0 (sym none))) i })
 
     -- all bindings of the normal world to e go
     listed-among : (test : ℕ → Bool) (m : ℕ) (g : ℕ → ℕ) (f : ℕ → List ℕ) (k : ℕ) → k < m → test (g k) ≡ true → among (f (g k)) (map f (filter test (listed m g))) ≡ true

@@ -5,7 +5,7 @@ use Rattle.std.specs.FinMap as finite
 use Rattle.std.proofs.lemmas.Option.{none-some, same_Some}
 use Rattle.byteorder.specs.Endian.{little_bytes}
 use Rattle.ffa_model.specs.declared.call.Call as calls
-use Rattle.ffa_model.specs.declared.call.Call.TheVariants.{PartitionInfoGet, MemDonate, MemLend, MemShare, MemRetrieve, MemRelinquish, MemReclaim, Version}
+use Rattle.ffa_model.specs.declared.call.Call.TheVariants.{PartitionInfoGet, MsgWait, MemDonate, MemLend, MemShare, MemRetrieve, MemRelinquish, MemReclaim, Version}
 use Rattle.ffa_model.specs.declared.descriptor.RelinquishDesc.{RelinquishDesc}
 use Rattle.ffa_model.specs.declared.operation.Op.{Op}
 use Rattle.ffa_model.specs.declared.operation.Op.TheVariants.{Call, Load, Store, Fetch}
@@ -26,7 +26,7 @@ use Rattle.ffa_model.specs.Step.{service, step}
 use Rattle.ffa_model.specs.declared.call.Transfer.{Transfer}
 use Rattle.ffa_model.specs.Transactions.{holding, next_handle, not_holding, open_of, scene_of}
 use Rattle.ffa_laws.proofs.Closed.{get-remove}
-use Rattle.ffa_laws.proofs.Form.{accessed-kept, served-kept}
+use Rattle.ffa_laws.proofs.Form.{accessed-kept, served-kept, waited-kept}
 use Rattle.ffa_laws.proofs.Opened.{Transactions, get-insert}
 use Rattle.ffa_laws.proofs.SendLaws.{IsOffer, no-offer, offer}
 use Rattle.ffa_laws.proofs.Taken as retrieve
@@ -113,6 +113,7 @@ module _ (s : State) (h : ℕ) where
         | false ↦ inl (same-open s.transactions h)
       ]
   comes-service (Version word) none = version-leaves (Comes s h) s.ffa s word (inl (same-open s.transactions h)) (λ version. inl (same-open s.transactions h))
+  comes-service (MsgWait flags) none = waited-kept (Comes s h) s flags (inl (same-open s.transactions h)) (inl (same-open s.transactions h))
   comes-service (MemDonate x) none = comes-sent Donate x none
   comes-service (MemLend x) none = comes-sent Lend x none
   comes-service (MemShare x) none = comes-sent Share x none

@@ -11,7 +11,7 @@ use Rattle.ffa_model.specs.declared.operation.Op.{Op}
 use Rattle.ffa_model.specs.declared.operation.Op.TheVariants.{Call, Load, Store, Fetch}
 use Rattle.ffa_model.specs.declared.operation.Outcome.TheVariants.{Data, Done}
 use Rattle.ffa_model.specs.declared.call.Call as calls
-use Rattle.ffa_model.specs.declared.call.Call.TheVariants.{PartitionInfoGet, MemDonate, MemLend, MemShare, MemRetrieve, MemRelinquish, MemReclaim, MsgSend2, Version}
+use Rattle.ffa_model.specs.declared.call.Call.TheVariants.{PartitionInfoGet, MsgWait, MemDonate, MemLend, MemShare, MemRetrieve, MemRelinquish, MemReclaim, MsgSend2, Version}
 use Rattle.ffa_model.specs.declared.rights.Kind.{Kind}
 use Rattle.ffa_model.specs.declared.rights.Kind.TheVariants.{Share, Lend, Donate}
 use Rattle.ffa_model.specs.declared.rights.Rights.{Rights}
@@ -28,6 +28,7 @@ use Rattle.ffa_model.specs.MemoryReturn.{is_unheld, memory_reclaim, memory_relin
 use Rattle.ffa_model.specs.MemorySend.{memory_send, memory_sent, send_guards, send_read, transaction_sent}
 use Rattle.ffa_model.specs.Messages.{header_in, message_in, tx_bytes}
 use Rattle.ffa_model.specs.Registers.{decode}
+use Rattle.ffa_model.specs.RunStates.{waited}
 use Rattle.ffa_model.specs.Setup.{info_bytes, is_count_alone, uuid_bytes}
 use Rattle.ffa_model.specs.Step.{serve, service, step}
 use Rattle.ffa_model.specs.declared.call.Transfer.{Transfer}
@@ -39,7 +40,7 @@ use Rattle.ffa_model.proofs.Holders.{unheld-by}
 use Rattle.ffa_laws.specs.Steady.{IsSteady}
 use Rattle.ffa_laws.specs.Moves.{by_runner}
 use Rattle.ffa_laws.specs.OwnAccess.{AreApart, IsSameOrNone, OwnAccess, gives_access, is_call, takes_access}
-use Rattle.ffa_laws.proofs.Form.{accessed-kept, served-kept}
+use Rattle.ffa_laws.proofs.Form.{accessed-kept, served-kept, waited-kept}
 use Rattle.ffa_laws.proofs.Opened.{opened, transaction_at-opened}
 use Rattle.ffa_laws.proofs.SendLaws.{IsOffer, alone, free, fresh, no-offer, offer}
 use Rattle.ffa_laws.proofs.Taken as retrieve
@@ -347,6 +348,8 @@ module _ (s : State) (steady : IsSteady s) where
         | false ↦ as_before s (filled s s.runner (info_bytes (version_of s s.runner) s.parties (uuid_bytes uuid))) false false (access-filled s s.runner (info_bytes (version_of s s.runner) s.parties (uuid_bytes uuid)))
       ]
   own-service (Version word) none = version-leaves (λ t. Own s t false false) s.ffa s word (as_before s s false false (λ e p. refl)) (λ version. as_before s (with_version s s.runner version) false false (λ e p. refl))
+  own-service (MsgWait flags) none =
+      waited-kept (λ t. Own s t false false) s flags (as_before s (waited s true) false false (λ e p. refl)) (as_before s (waited s false) false false (λ e p. refl))
   own-service (MemDonate x) none = send-own Donate x true (λ is. absurd (true≢false is)) none
   own-service (MemLend x) none = send-own Lend x true (λ is. absurd (true≢false is)) none
   own-service (MemShare x) none = send-own Share x false (λ is. refl) none

@@ -28,7 +28,7 @@ use Rattle.ffa_model.specs.Step.{service, step}
 use Rattle.ffa_model.proofs.Places.{same-known}
 use Rattle.ffa_laws.specs.Steady.{IsSteady}
 use Rattle.ffa_laws.specs.Isolation.{is_rx}
-use Rattle.ffa_laws.proofs.Form.{accessed-kept, served-kept}
+use Rattle.ffa_laws.proofs.Form.{accessed-kept, served-kept, waited-kept}
 use Rattle.ffa_laws.proofs.Versions.{version-leaves}
 use Rattle.ffa_laws.proofs.Written.{at-changed, is_at, with_rx_full}
 
@@ -68,7 +68,7 @@ module _ (s : State) (steady : IsSteady s) (e : ℕ) (known : is_known s e ≡ t
   rx-service : (call : calls.Call) → is_rx (service s call).state e p ≡ is_rx s e p
   rx-service RxRelease = rx-filled s.runner false
   rx-service (Version word) = version-leaves (λ t. is_rx t e p ≡ is_rx s e p) s.ffa s word refl (λ version. refl)
-  rx-service MsgWait = rx-filled s.runner false
+  rx-service (MsgWait flags) = waited-kept (λ t. is_rx t e p ≡ is_rx s e p) s flags refl (rx-filled s.runner false)
   rx-service (RxtxMap tx rx pages) = rx-beside (Some (new_buffers s.ram_base tx rx pages))
   rx-service (RxtxUnmap endpoint) = rx-beside None
   rx-service (PartitionInfoGet uuid flags) =

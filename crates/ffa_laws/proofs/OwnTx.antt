@@ -7,7 +7,7 @@ use Rattle.std.proofs.lemmas.List.{get_or_past}
 use Rattle.std.proofs.lemmas.Option.{same_Some}
 use Rattle.ffa_model.specs.declared.descriptor.RelinquishDesc.{RelinquishDesc}
 use Rattle.ffa_model.specs.declared.call.Call as calls
-use Rattle.ffa_model.specs.declared.call.Call.TheVariants.{PartitionInfoGet, MemDonate, MemLend, MemShare, MemRetrieve, MemRelinquish, MemReclaim, MsgSend2, Version}
+use Rattle.ffa_model.specs.declared.call.Call.TheVariants.{PartitionInfoGet, MsgWait, MemDonate, MemLend, MemShare, MemRetrieve, MemRelinquish, MemReclaim, MsgSend2, Version}
 use Rattle.ffa_model.specs.declared.call.Transfer.{Transfer}
 use Rattle.ffa_model.specs.declared.operation.Op.TheVariants.{Call}
 use Rattle.ffa_model.specs.declared.rights.Kind.{Kind}
@@ -42,7 +42,7 @@ use Rattle.ffa_model.proofs.Runs.{in-run}
 use Rattle.ffa_laws.specs.Reads.{AreBeside, AreReadSame}
 use Rattle.ffa_laws.specs.Steady.{IsSteady}
 use Rattle.ffa_laws.specs.Writers.{LeavesTx}
-use Rattle.ffa_laws.proofs.Form.{served-kept}
+use Rattle.ffa_laws.proofs.Form.{served-kept, waited-kept}
 use Rattle.ffa_laws.proofs.Integrities.{bytes_of}
 use Rattle.ffa_laws.proofs.NoMore.{reads_no_more}
 use Rattle.ffa_laws.proofs.SendLaws.{IsOffer, no-offer, offer}
@@ -137,7 +137,7 @@ module _ (s : State) (sound : IsSoundState s) (b : Buffers) (has : buffers_of s 
   message-off : first_failure (msg_send2 s).guards ≡ None → bytes_in (msg_send2 s).state.pages p ≡ bytes_in s.pages p
   message-off none =
       let to : ℕ = (header_in (tx_bytes s s.runner)).receiver in
-      let guards = send2_guards s.parties s.buffers s.runner (header_in (tx_bytes s s.runner)) in
+      let guards = send2_guards s.parties s.buffers (version_of s s.runner) s.runner (header_in (tx_bytes s s.runner)) in
       let known = guard-passes guards 4 (sym none) in
       let other = guard-passes guards 5 (sym none) in
       elsewhere-filled s.pages p (message_in (tx_bytes s s.runner)) (buffers_of s to) (λ c is q rx same.
@@ -152,6 +152,7 @@ module _ (s : State) (sound : IsSoundState s) (b : Buffers) (has : buffers_of s 
         | false ↦ by-runner s.pages (info_bytes (version_of s s.runner) s.parties (uuid_bytes uuid))
       ]
   off-service (Version word) none = version-leaves (λ t. page_bytes t p ≡ page_bytes s p) s.ffa s word refl (λ version. refl)
+  off-service (MsgWait flags) none = waited-kept (λ t. page_bytes t p ≡ page_bytes s p) s flags refl refl
   off-service (MemDonate x) none = send-off Donate x none
   off-service (MemLend x) none = send-off Lend x none
   off-service (MemShare x) none = send-off Share x none

@@ -57,7 +57,7 @@ public-service s RxRelease quiet = absurd (true≢false quiet)
 public-service s (RxtxMap tx rx pages) quiet = absurd (true≢false quiet)
 public-service s (RxtxUnmap endpoint) quiet = absurd (true≢false quiet)
 public-service s (PartitionInfoGet uuid flags) quiet = absurd (true≢false quiet)
-public-service s MsgWait quiet = absurd (true≢false quiet)
+public-service s (MsgWait flags) quiet = absurd (true≢false quiet)
 public-service s Yield quiet = absurd (true≢false quiet)
 public-service s (Run target context) quiet = absurd (true≢false quiet)
 public-service s (DirectRequest message) quiet = absurd (true≢false quiet)
@@ -142,7 +142,7 @@ released-row e s (Some d) =
     (all-one (told_row MemRelinquish) _ (Zeroed d.handle) refl)
 
 pub row-of : (e : ℕ) (s : State) (call : calls.Call) → list_all (told_row call) (told_by e s call) ≡ true
-row-of e s MsgWait = all-one (told_row MsgWait) ((msg_wait s).state.runner == e) (Message (encode (msg_wait s).reply)) refl
+row-of e s (MsgWait flags) = all-one (told_row (MsgWait flags)) ((msg_wait s flags).state.runner == e) (Message (encode (msg_wait s flags).reply)) refl
 row-of e s Yield = all-one (told_row Yield) ((yield_now s).state.runner == e) (Message (encode (yield_now s).reply)) refl
 row-of e s (Run target context) = all-one (told_row (Run target context)) ((run_partition s target.0 context).state.runner == e) (Message (encode (run_partition s target.0 context).reply)) refl
 row-of e s (DirectRequest message) = all-one (told_row (DirectRequest message)) ((direct_request s message).state.runner == e) (Message (encode (direct_request s message).reply)) refl

@@ -452,9 +452,9 @@ module _ (s : State) (steady : IsSteady s) (kind : Kind) (r : SendRecord) (good 
 -- ---- the calls
 pub own-send : (s : State) → IsSteady s → (kind : Kind) (x : Transfer) → IsOwn s (memory_send (view s.runner s) kind x) (memory_send s kind x)
 own-send s steady kind x = (
-  ap (λ d. first_failure (send_guards (scene_of (view s.runner s)) s.runner x (send_of kind d))) same-descriptor ∙ same-failure s steady x (send_read s kind x.total),
+  ap (λ d. first_failure (send_guards (scene_of (view s.runner s)) s.runner x (send_of s.ffa kind d))) same-descriptor ∙ same-failure s steady x (send_read s kind x.total),
   λ none. (
-    ap (λ d. memory_sent (view s.runner s) kind (send_of kind d)) same-descriptor ∙ of (send_read s kind x.total) none,
+    ap (λ d. memory_sent (view s.runner s) kind (send_of s.ffa kind d)) same-descriptor ∙ of (send_read s kind x.total) none,
     ap handle_reply (handle-seen s steady),
   ),
 )
@@ -471,7 +471,7 @@ steady-send s steady kind x none = of (send_read s kind x.total) refl none
   where
     of : (o : Option SendRecord) → send_read s kind x.total ≡ o → first_failure (send_guards (scene_of s) s.runner x o) ≡ None → IsSteady (memory_sent s kind o)
     of None is none = steady
-    of (Some r) is none = steady-sent s steady kind r (offer s x r none) (counted kind (descriptor_in s x.total) r is).few_receivers
+    of (Some r) is none = steady-sent s steady kind r (offer s x r none) (counted s.ffa kind (descriptor_in s x.total) r is).few_receivers
 
 pub other-send : (e : ℕ) (s : State) → IsSteady s → is_known s e ≡ true → s.runner ≢ e → (kind : Kind) (x : Transfer) → IsTold e s (memory_send s kind x) (opens e s kind (send_read s kind x.total))
 other-send e s steady known other kind x none = of (send_read s kind x.total) none

@@ -6,6 +6,7 @@ use Rattle.std.proofs.lemmas.Bool.{and_parts, leb-true, ltb-true}
 use Rattle.std.proofs.lemmas.Option.{none-some, same_Some}
 use Rattle.byteorder.specs.Numbers.{little_from-lt}
 use Rattle.ffa_model.specs.declared.limits.TheConstants.{MOST_RANGES}
+use Rattle.ffa_model.specs.declared.manifest.Ffa.{Ffa}
 use Rattle.ffa_model.specs.declared.rights.Kind.{Kind}
 use Rattle.ffa_model.specs.DescriptorPlaces.{is_header, range_count, receiver_count, u64_at, Versioned}
 use Rattle.ffa_model.specs.SendDescriptor.{SendRecord, is_composite, is_send_body, is_send_header, most_receivers, range_in, receiver_in, send_counted, send_in, send_of}
@@ -19,9 +20,9 @@ pub record IsCounted (kind : Kind) (r : SendRecord) : Type 0 where
   pub some_ranges : 1 ≤ length r.ranges
   pub few_ranges : length r.ranges ≤ MOST_RANGES
 
-counted-in : (kind : Kind) (b : Versioned) → (is_header b && is_send_header kind b && is_composite b) ≡ true → IsCounted kind (send_in b)
+counted-in : (ffa : Ffa) (kind : Kind) (b : Versioned) → (is_header b && is_send_header ffa kind b && is_composite b) ≡ true → IsCounted kind (send_in ffa kind b)
 unfolding is_send_header
-counted-in kind b are =
+counted-in ffa kind b are =
     let (headers, composite) = and_parts _ (is_composite b) are in
     let (header, send) = and_parts (is_header b) _ headers in
     let (before_most, most) = and_parts _ _ send in
@@ -40,22 +41,22 @@ counted-in kind b are =
     }
 
 -- bytes that are a send descriptor say what their fields say, and their counts are good
-module _ (kind : Kind) (b : Versioned) (r : SendRecord) (is : send_of kind b ≡ Some r) where
-  read : ((is_header b && is_send_header kind b && is_composite b) ≡ true) × (send_in b ≡ r)
+module _ (ffa : Ffa) (kind : Kind) (b : Versioned) (r : SendRecord) (is : send_of ffa kind b ≡ Some r) where
+  read : ((is_header b && is_send_header ffa kind b && is_composite b) ≡ true) × (send_in ffa kind b ≡ r)
   unfolding send_of
-  read = of (is_header b && is_send_header kind b && is_composite b) refl is
+  read = of (is_header b && is_send_header ffa kind b && is_composite b) refl is
     where
-      body : (c : Bool) → cond c (Some (send_in b)) None ≡ Some r → send_in b ≡ r
+      body : (c : Bool) → cond c (Some (send_in ffa kind b)) None ≡ Some r → send_in ffa kind b ≡ r
       body true same = same_Some _ r same
       body false none = absurd (none-some r none)
 
-      of : (c : Bool) → (is_header b && is_send_header kind b && is_composite b) ≡ c → send_counted c kind b ≡ Some r
-          → ((is_header b && is_send_header kind b && is_composite b) ≡ true) × (send_in b ≡ r)
+      of : (c : Bool) → (is_header b && is_send_header ffa kind b && is_composite b) ≡ c → send_counted c ffa kind b ≡ Some r
+          → ((is_header b && is_send_header ffa kind b && is_composite b) ≡ true) × (send_in ffa kind b ≡ r)
       of true are same = (are, body (is_send_body kind b) same)
       of false are none = absurd (none-some r none)
 
   pub counted : IsCounted kind r
-  counted = subst (IsCounted kind) read.1 (counted-in kind b read.0)
+  counted = subst (IsCounted kind) read.1 (counted-in ffa kind b read.0)
 
   pub tag-below : are_bytes b.bytes → r.tag < 2 ^ 64
   unfolding u64_at

@@ -17,10 +17,10 @@ use Rattle.ffa_model.specs.Step.{service}
 use Rattle.ffa_laws.specs.Steady.{IsSteady}
 use Rattle.ffa_laws.specs.View.{view}
 use Rattle.ffa_laws.specs.Events.{told_by, Pending, Closed, message}
-use Rattle.ffa_laws.proofs.Form.{IsOwn}
+use Rattle.ffa_laws.proofs.Form.{IsOwn, waited-kept, waited-runs}
 use Rattle.ffa_laws.proofs.Told.{IsTold, other-same}
 use Rattle.ffa_laws.proofs.BufferLaws.{other-buffers, other-release, own-map, own-release, own-unmap, steady-map, steady-unmap, steady-with_rx}
-use Rattle.ffa_laws.proofs.SetupLaws.{other-info, own-info, steady-info}
+use Rattle.ffa_laws.proofs.SetupLaws.{other-info, own-features, own-info, steady-info}
 use Rattle.ffa_laws.proofs.ScheduleLaws.{other-scheduled, other-wait, own-request, own-response, own-run, own-wait, own-yield, steady-request, steady-response, steady-run, steady-wait, steady-yield}
 use Rattle.ffa_laws.proofs.ReclaimLaws.{other-reclaim, own-reclaim}
 use Rattle.ffa_laws.proofs.ReturnLaws.{other-relinquish, own-relinquish, steady-reclaim, steady-relinquish}
@@ -54,14 +54,14 @@ use Rattle.ffa_laws.proofs.SoundSteps.{AreSound, IsScheduled, scheduled-request,
 -- what an endpoint does is done alike in its view
 pub own-service : (s : State) → IsSteady s → (call : calls.Call) → IsOwn s (service (view s.runner s) call) (service s call)
 own-service s steady (Version word) = own-version s steady word
-own-service s steady (Features function) = (refl, λ none. (refl, refl))
+own-service s steady (Features function) = own-features s steady function
 own-service s steady RxRelease = own-release s steady
 own-service s steady (RxtxMap tx rx pages) = own-map s steady tx rx pages
 own-service s steady (RxtxUnmap endpoint) = own-unmap s steady endpoint
 own-service s steady (PartitionInfoGet uuid flags) = own-info s steady uuid flags
 own-service s steady IdGet = (refl, λ none. (refl, refl))
 own-service s steady SpmIdGet = (refl, λ none. (refl, refl))
-own-service s steady MsgWait = own-wait s
+own-service s steady (MsgWait flags) = own-wait s steady flags
 own-service s steady Yield = own-yield s
 own-service s steady (Run target context) = own-run s target.0 context
 own-service s steady (DirectRequest message) = own-request s message
@@ -92,7 +92,7 @@ module _ (e : ℕ) (s : State) (steady : IsSteady s) (known : is_known s e ≡ t
   other-service (PartitionInfoGet uuid flags) = λ none. other-info s steady uuid flags e other
   other-service IdGet = λ none. other-same e s
   other-service SpmIdGet = λ none. other-same e s
-  other-service MsgWait = λ none. other-wait e s
+  other-service (MsgWait flags) = λ none. other-wait e s flags
   other-service Yield = λ none. other-scheduled e s (switched (schedule_of s) Yielded 0) (yield_now s)
   other-service (Run target context) = λ none. other-scheduled e s (given_cycles (schedule_of s) target.0 (status_in (schedule_of s) target.0)) (run_partition s target.0 context)
   other-service (DirectRequest message) = λ none. other-scheduled e s (requested (schedule_of s) message.receiver.0) (direct_request s message)
@@ -122,7 +122,7 @@ steady-service s steady (RxtxUnmap endpoint) none = steady-unmap s steady
 steady-service s steady (PartitionInfoGet uuid flags) none = steady-info s steady uuid flags
 steady-service s steady IdGet none = steady
 steady-service s steady SpmIdGet none = steady
-steady-service s steady MsgWait none = steady-wait s steady
+steady-service s steady (MsgWait flags) none = steady-wait s steady flags
 steady-service s steady Yield none = steady-yield s steady
 steady-service s steady (Run target context) none = steady-run s steady target.0 context none
 steady-service s steady (DirectRequest message) none = steady-request s steady message none
@@ -153,7 +153,7 @@ module _ (e : ℕ) (s : State) (differ : s.runner ≢ e) where
   shows-service (PartitionInfoGet uuid flags) = quiet e s differ (service s (PartitionInfoGet uuid flags)) (told_by e s (PartitionInfoGet uuid flags)) refl (informed-runs s (uuid_bytes uuid) (is_count_alone flags))
   shows-service IdGet = quiet e s differ (service s IdGet) (told_by e s IdGet) refl refl
   shows-service SpmIdGet = quiet e s differ (service s SpmIdGet) (told_by e s SpmIdGet) refl refl
-  shows-service MsgWait = switching e s differ (msg_wait s)
+  shows-service (MsgWait flags) = switching e s differ (msg_wait s flags)
   shows-service Yield = switching e s differ (yield_now s)
   shows-service (Run target context) = switching e s differ (run_partition s target.0 context)
   shows-service (DirectRequest message) = switching e s differ (direct_request s message)
@@ -187,7 +187,7 @@ module _ (s : State) (sound : IsSoundState s) where
       framework-sound (filled s (header_in (tx_bytes s s.runner)).receiver (message_in (tx_bytes s s.runner)))
       (filled-state-sound s sound (header_in (tx_bytes s s.runner)).receiver (message_in (tx_bytes s s.runner)) (sent-sound s sound (buffers_of s (header_in (tx_bytes s s.runner)).receiver)))
       (header_in (tx_bytes s s.runner)).receiver
-      (guard-passes (send2_guards s.parties s.buffers s.runner (header_in (tx_bytes s s.runner))) 4 (sym none))
+      (guard-passes (send2_guards s.parties s.buffers (version_of s s.runner) s.runner (header_in (tx_bytes s s.runner))) 4 (sym none))
 
   pub sound-service : (call : calls.Call) → first_failure (service s call).guards ≡ None → IsSoundState (service s call).state
   sound-service (Version word) none = version-leaves IsSoundState s.ffa s word sound (version-sound s sound s.runner)
@@ -202,8 +202,9 @@ module _ (s : State) (sound : IsSoundState s) where
       ]
   sound-service IdGet none = sound
   sound-service SpmIdGet none = sound
-  sound-service MsgWait none =
-      rx-sound (with_schedule s (finished (schedule_of s) 0)) (run-states (finished (schedule_of s) 0) (scheduled-wait s scheduled none)) s.runner false
+  sound-service (MsgWait flags) none =
+      let waits = run-states (finished (schedule_of s) 0) (scheduled-wait s scheduled flags none) in
+      waited-kept IsSoundState s flags waits (rx-sound (with_schedule s (finished (schedule_of s) 0)) waits s.runner false)
   sound-service Yield none = run-states (switched (schedule_of s) Yielded 0) (scheduled-yield s scheduled none)
   sound-service (Run target context) none =
       run-states (given_cycles (schedule_of s) target.0 (status_in (schedule_of s) target.0)) (scheduled-run s scheduled target.0 context none)
@@ -232,7 +233,7 @@ module _ (s : State) (sound : IsSoundState s) where
 
   -- the same partitions run elsewhere
   pub elsewhere-service : (call : calls.Call) → first_failure (service s call).guards ≡ None → SameElsewhere (schedule_of s) (schedule_of (service s call).state)
-  elsewhere-service MsgWait none = (scheduled-wait s scheduled none).next.elsewhere
+  elsewhere-service (MsgWait flags) none = subst (SameElsewhere (schedule_of s)) (sym (waited-runs s flags)) (scheduled-wait s scheduled flags none).next.elsewhere
   elsewhere-service Yield none = (scheduled-yield s scheduled none).next.elsewhere
   elsewhere-service (Version word) none = version-leaves (λ t. SameElsewhere (schedule_of s) (schedule_of t)) s.ffa s word (same-elsewhere (schedule_of s)) (λ version. same-elsewhere (schedule_of s))
   elsewhere-service (Run target context) none = (scheduled-run s scheduled target.0 context none).next.elsewhere

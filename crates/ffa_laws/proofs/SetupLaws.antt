@@ -1,5 +1,5 @@
 -- SPDX-License-Identifier: MIT OR Apache-2.0
--- Partition information: in the runner's view, and to others.
+-- Features and partition information: in the runner's view, and to others.
 use Rattle.std.proofs.Common.{◌≡◌, ◌≢◌, ◌∙◌, ℕ, Bool, true, false, cond, List, [], ◌∷◌, length, is_some, refl, sym, ap, length-set, ◌||◌, not}
 use Rattle.ffa_model.specs.Manifest.{is_nil}
 use Rattle.ffa_model.specs.Identifiers.{place}
@@ -7,7 +7,7 @@ use Rattle.ffa_model.specs.State.{State, buffers_of, version_of}
 use Rattle.ffa_model.specs.Buffers.{buffers_with_rx, filled, filled_pages, is_full}
 use Rattle.ffa_model.specs.Calls.{first_failure, success}
 use Rattle.ffa_model.specs.RunStates.{schedule_of}
-use Rattle.ffa_model.specs.Setup.{told_info_size, info_bytes, info_get, info_guards, informed, is_any, is_count_alone, selected, uuid_bytes}
+use Rattle.ffa_model.specs.Setup.{features, features_reply, told_info_size, info_bytes, info_get, info_guards, informed, is_any, is_count_alone, selected, uuid_bytes}
 use Rattle.ffa_laws.specs.Steady.{IsSteady}
 use Rattle.ffa_laws.specs.View.{view}
 use Rattle.ffa_laws.specs.Events.{apply_all, public_change}
@@ -18,6 +18,10 @@ use Rattle.ffa_laws.proofs.Told.{other-same}
 use Rattle.ffa_laws.proofs.BufferLaws.{far-repaged, own-buffers, steady-filled, view-filled}
 use Rattle.ffa_laws.proofs.Versions.{version-seen}
 use Rattle.ffa_model.specs.declared.refusal.Refusal.TheVariants.{UuidUnknown, BuffersMissing, RxFull}
+
+-- what is told of a call depends on the runner's form, which it sees
+pub own-features : (s : State) → IsSteady s → (function : ℕ) → IsOwn s (features (view s.runner s) function) (features s function)
+own-features s steady function = (refl, λ none. (refl, ap (λ version. features_reply s.ffa version function) (version-seen s.runner s steady.runner)))
 
 module _ (s : State) (steady : IsSteady s) (words : List ℕ) (flags : ℕ) where
   abbrev uuid : List ℕ

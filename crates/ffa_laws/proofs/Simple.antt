@@ -29,7 +29,7 @@ use Rattle.ffa_model.specs.State.{State, is_partition_among}
 use Rattle.ffa_model.specs.Step.{service, step}
 use Rattle.ffa_model.proofs.FirstChain.{first-waits}
 use Rattle.ffa_model.proofs.Places.{partition-place}
-use Rattle.ffa_laws.proofs.Form.{accessed-kept, served-kept}
+use Rattle.ffa_laws.proofs.Form.{accessed-kept, served-kept, waited-runs}
 use Rattle.ffa_laws.proofs.Versions.{version-leaves}
 use Rattle.ffa_laws.proofs.Showing.{informed-runs, offered-runs, relinquished-runs, retrieved-runs}
 
@@ -96,7 +96,7 @@ module _ (s : State) (simple : IsSimple (schedule_of s)) where
   same-runs d same = subst IsSimple (sym same) simple
 
   simple-service : (call : calls.Call) → IsSimple (schedule_of (service s call).state)
-  simple-service MsgWait = simple-finished 0
+  simple-service (MsgWait flags) = subst IsSimple (sym (waited-runs s flags)) (simple-finished 0)
   simple-service (Version word) = version-leaves (λ t. IsSimple (schedule_of t)) s.ffa s word simple (λ version. simple)
   simple-service Yield = simple-switched c simple Yielded 0 yielded
   simple-service (Run target context) = simple-given target.0 (status_in c target.0)

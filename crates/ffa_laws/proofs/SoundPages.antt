@@ -17,7 +17,7 @@ use Rattle.ffa_model.specs.Identifiers.{identifier}
 use Rattle.ffa_model.specs.Manifest.{is_nil}
 use Rattle.ffa_model.specs.Rights.{may_store}
 use Rattle.ffa_model.specs.declared.endpoint.Version.{Version}
-use Rattle.ffa_model.specs.declared.endpoint.Version.TheVariants.{Compact, V1_1}
+use Rattle.ffa_model.specs.declared.endpoint.Version.TheVariants.{Compact, V1_1, V1_2}
 use Rattle.ffa_model.specs.Bits.{bits}
 use Rattle.ffa_model.specs.State.{State, Page, Party, Buffers, buffers_of, page_at, version_of}
 use Rattle.ffa_model.specs.Memory.{access_at, fault_of, page_bytes, page_with, run_bytes, size_of, store_fault, written_pages, written_run}
@@ -129,13 +129,16 @@ module _ (s : State) (sound : IsSoundState s) where
     abbrev from_contexts : Version → ℕ × Party → List ℕ
     from_contexts version x = little_bytes 2 1 ++ properties_info version uuid x.1
 
+    -- in each form but the compact one
+    bytes-full : (x : ℕ × Party) → passes x ≡ true → are_bytes (little_bytes 4 (x.1.properties + 0x100) ++ shown_uuid x)
+    bytes-full x good =
+        both-bytes (little_bytes 4 (x.1.properties + 0x100)) (shown_uuid x) (number-bytes 0 4 (x.1.properties + 0x100))
+        (elim (is_nil uuid) as (λ b. are_bytes (cond b x.1.uuid (replicate 16 0))) [ true ↦ (and_parts (length x.1.uuid == 16) _ good).1 | false ↦ refl ])
+
     bytes-properties : (version : Version) (x : ℕ × Party) → passes x ≡ true → are_bytes (properties_info version uuid x.1)
     bytes-properties Compact x good = number-bytes 0 4 (bits 2 0 x.1.properties)
-    bytes-properties V1_1 x good =
-        both-bytes (little_bytes 4 (x.1.properties + 0x100)) (shown_uuid x) (number-bytes 0 4 (x.1.properties + 0x100)) shown
-      where
-        shown : are_bytes (shown_uuid x)
-        shown = elim (is_nil uuid) as (λ b. are_bytes (cond b x.1.uuid (replicate 16 0))) [ true ↦ (and_parts (length x.1.uuid == 16) _ good).1 | false ↦ refl ]
+    bytes-properties V1_1 x good = bytes-full x good
+    bytes-properties V1_2 x good = bytes-full x good
 
     bytes-info : (version : Version) (x : ℕ × Party) → passes x ≡ true → are_bytes (info_of version uuid x)
     bytes-info version x good =

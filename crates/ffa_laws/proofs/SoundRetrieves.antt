@@ -5,12 +5,12 @@ use Rattle.std.specs.List.{flat_map, list_all}
 use Rattle.std.proofs.lemmas.Bool.{and_from, lt-ltb}
 use Rattle.ffa_model.specs.declared.rights.Data.{Data}
 use Rattle.ffa_model.specs.declared.endpoint.Version.{Version}
-use Rattle.ffa_model.specs.declared.endpoint.Version.TheVariants.{Compact, V1_1}
+use Rattle.ffa_model.specs.declared.endpoint.Version.TheVariants.{Compact, V1_1, V1_2}
 use Rattle.ffa_model.specs.declared.rights.Data.TheVariants.{Ro, Rw}
 use Rattle.ffa_model.specs.declared.transaction.Range.{Range}
 use Rattle.ffa_model.specs.Calls.{first_failure}
-use Rattle.ffa_model.specs.DescriptorPlaces.{data_code, exec_code, header_size}
-use Rattle.ffa_model.specs.ResponseBytes.{ResponseRecord, access_bytes, attributes_told, composite_bytes, flags_of, header_bytes, le, permissions_of, range_bytes, response_bytes}
+use Rattle.ffa_model.specs.DescriptorPlaces.{accesses_size, data_code, exec_code, header_size}
+use Rattle.ffa_model.specs.ResponseBytes.{ResponseRecord, access_bytes, access_rest_bytes, attributes_told, composite_bytes, flags_of, header_bytes, le, permissions_of, range_bytes, response_bytes}
 use Rattle.ffa_model.specs.SendDescriptor.{page_total}
 use Rattle.ffa_model.specs.SoundState.{IsSoundState, are_bytes}
 use Rattle.ffa_model.specs.State.{State, buffers_of, version_of}
@@ -54,15 +54,31 @@ module _ (version : Version) (r : ResponseRecord) where
     where
       of : (v : Version) → are_bytes (header_bytes v r)
       of Compact =
-          numbers-bytes ((2, r.sender) ∷ (2, attributes_told r.normal) ∷ (4, flags_of r.kind r.zero) ∷ (8, r.handle) ∷ (8, r.tag) ∷ (4, 0) ∷ (4, 1) ∷ [])
+          numbers-bytes ((2, r.sender) ∷ (2, attributes_told Compact r.normal) ∷ (4, flags_of r.kind r.zero) ∷ (8, r.handle) ∷ (8, r.tag) ∷ (4, 0) ∷ (4, 1) ∷ [])
       of V1_1 =
-          numbers-bytes ((2, r.sender) ∷ (2, attributes_told r.normal) ∷ (4, flags_of r.kind r.zero) ∷ (8, r.handle) ∷ (8, r.tag) ∷ (4, 16) ∷ (4, 1) ∷ (4, 48) ∷ (4, 0) ∷ (8, 0) ∷ [])
+          numbers-bytes ((2, r.sender) ∷ (2, attributes_told V1_1 r.normal) ∷ (4, flags_of r.kind r.zero) ∷ (8, r.handle) ∷ (8, r.tag) ∷ (4, 16) ∷ (4, 1) ∷ (4, 48) ∷ (4, 0) ∷ (8, 0) ∷ [])
+      of V1_2 =
+          numbers-bytes ((2, r.sender) ∷ (2, attributes_told V1_2 r.normal) ∷ (4, flags_of r.kind r.zero) ∷ (8, r.handle) ∷ (8, r.tag) ∷ (4, 32) ∷ (4, 1) ∷ (4, 48) ∷ (4, 0) ∷ (8, 0) ∷ [])
+
+  rest-are_bytes : are_bytes (access_rest_bytes version)
+  unfolding le
+  rest-are_bytes = of version
+    where
+      of : (v : Version) → are_bytes (access_rest_bytes v)
+      of Compact = refl
+      of V1_1 = refl
+      of V1_2 = refl
+
+  -- where the composite stands
+  abbrev behind : ℕ
+  behind = header_size version + accesses_size version 1
 
   access-are_bytes : are_bytes (access_bytes version r)
   unfolding le
   access-are_bytes =
-      both-bytes (le 2 r.endpoint) (permissions_of r.rights ∷ 0 ∷ le 4 (header_size version + 16) ++ le 8 0) (le-bytes 2 r.endpoint)
-      (and_from (nat_lt (permissions_of r.rights) 256) _ (lt-ltb (permissions_of r.rights) 256 (permissions-byte r.rights.level r.rights.exec)) (numbers-bytes ((4, header_size version + 16) ∷ (8, 0) ∷ [])))
+      both-bytes (le 2 r.endpoint) (permissions_of r.rights ∷ 0 ∷ le 4 behind ++ access_rest_bytes version) (le-bytes 2 r.endpoint)
+      (and_from (nat_lt (permissions_of r.rights) 256) _ (lt-ltb (permissions_of r.rights) 256 (permissions-byte r.rights.level r.rights.exec))
+      (both-bytes (le 4 behind) (access_rest_bytes version) (le-bytes 4 behind) rest-are_bytes))
 
   composite-are_bytes : are_bytes (composite_bytes r.ranges)
   unfolding le

@@ -49,7 +49,7 @@ module _ (s : State) (sound : IsSoundState s) (kind : Kind) (x : Transfer) where
   -- what the guards and the descriptor say is what soundness asks of a send
   sendable : (r : SendRecord) → send_read s kind x.total ≡ Some r → IsOffer s r → IsSendable s (transaction_sent s kind r)
   sendable r is good =
-      let counts = counted kind (descriptor_in s x.total) r is in
+      let counts = counted s.ffa kind (descriptor_in s x.total) r is in
       record {
         sender = subst (λ e. is_known s e ≡ true) (sym good.sender) (runner-known s sound);
         inside = good.inside;
@@ -64,7 +64,7 @@ module _ (s : State) (sound : IsSoundState s) (kind : Kind) (x : Transfer) where
         few_receivers = counts.few_receivers;
         some_ranges = counts.some_ranges;
         few_ranges = counts.few_ranges;
-        tag = tag-below kind (descriptor_in s x.total) r is (all-take (λ b. nat_lt b 256) x.total (tx_bytes s s.runner) (tx-are-bytes s sound s.runner));
+        tag = tag-below s.ffa kind (descriptor_in s x.total) r is (all-take (λ b. nat_lt b 256) x.total (tx_bytes s s.runner) (tx-are-bytes s sound s.runner));
         worlds = unoffered s r good.one_world;
         told = refl;
       }

@@ -42,8 +42,8 @@ module _ (s : State) (is : IsScheduled s) where
   finished-works : (e : ℕ) → length (finished c e).works ≡ n
   finished-works e = length-set s.works (place s.runner) None ∙ is.works
 
-  pub scheduled-wait : first_failure (msg_wait s).guards ≡ None → AreSound n c (finished c 0)
-  scheduled-wait none = record { next = next-wait c is.schedule some none; works = finished-works 0 }
+  pub scheduled-wait : (flags : ℕ) → first_failure (msg_wait s flags).guards ≡ None → AreSound n c (finished c 0)
+  scheduled-wait flags none = record { next = next-wait c is.schedule some none; works = finished-works 0 }
 
   pub scheduled-yield : first_failure (yield_now s).guards ≡ None → AreSound n c (switched c Yielded 0)
   scheduled-yield none = record { next = next-yield c is.schedule some none; works = is.works }

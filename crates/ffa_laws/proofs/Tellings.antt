@@ -9,7 +9,7 @@ use Rattle.ffa_model.specs.declared.descriptor.RetrieveDesc.{RetrieveDesc}
 use Rattle.ffa_model.specs.declared.operation.Op.{Op}
 use Rattle.ffa_model.specs.declared.operation.Op.TheVariants.{Call, Store}
 use Rattle.ffa_model.specs.declared.call.Call as calls
-use Rattle.ffa_model.specs.declared.call.Call.TheVariants.{MemDonate, MemLend, MemShare, MemRetrieve, MemRelinquish, MsgSend2}
+use Rattle.ffa_model.specs.declared.call.Call.TheVariants.{MsgWait, MemDonate, MemLend, MemShare, MemRetrieve, MemRelinquish, MsgSend2}
 use Rattle.ffa_model.specs.declared.rights.Kind.{Kind}
 use Rattle.ffa_model.specs.declared.rights.Kind.TheVariants.{Share, Lend, Donate}
 use Rattle.ffa_model.specs.declared.transaction.Range.{Range}
@@ -20,20 +20,22 @@ use Rattle.ffa_model.specs.RetrieveDescriptor.{retrieve_of}
 use Rattle.ffa_model.specs.SendDescriptor.{SendRecord, send_of}
 use Rattle.ffa_model.specs.State.{State, Page, Buffers, Transaction, buffers_of, page_at, transaction_of, version_of}
 use Rattle.ffa_model.specs.Access.{access, is_receiver, names, transaction_at}
-use Rattle.ffa_model.specs.Calls.{first_failure}
+use Rattle.ffa_model.specs.Calls.{encode, first_failure}
 use Rattle.ffa_model.specs.Memory.{fault_of, page_bytes, run_bytes, size_of}
 use Rattle.ffa_model.specs.DescriptorPlaces.{in_version}
 use Rattle.ffa_model.specs.MemorySend.{is_told_normal, memory_sent, send_read, transaction_from, transaction_sent}
 use Rattle.ffa_model.specs.MemoryRetrieve.{retrieve_read, right_for}
 use Rattle.ffa_model.specs.Messages.{tx_bytes}
 use Rattle.ffa_model.specs.Registers.{decode}
+use Rattle.ffa_model.specs.RunStates.{Schedule, msg_wait}
 use Rattle.ffa_model.specs.Step.{serve, service, step}
 use Rattle.ffa_model.specs.Transactions.{next_handle, open_of}
 use Rattle.ffa_model.proofs.Runs.{flat-run-same}
 use Rattle.ffa_laws.specs.View.{involves, is_near, kept, view}
-use Rattle.ffa_laws.specs.Events.{Event, Wrote, Opened, Zeroed, call_events, delivers, events, messages, named_pages, opens, public_change, releases, takes, takes_from, taking, told_by, where_passed, where_true}
+use Rattle.ffa_laws.specs.Events.{Event, Wrote, Message, Opened, Zeroed, call_events, delivers, events, messages, named_pages, opens, public_change, releases, takes, takes_from, taking, told_by, where_passed, where_true}
 use Rattle.ffa_laws.specs.Readable.{all_readably, blank, blank_where, blanked, is_unreadable, readable, readably, revealed}
 use Rattle.ffa_laws.proofs.Blanks.{access-b, access_at-b, ownership-b, blank-twice, call-b, outcome-b, page-b, sent-b, service-b, state-b}
+use Rattle.ffa_laws.proofs.Form.{waited-runs}
 use Rattle.ffa_laws.proofs.Maps.{map_at-same, map_at-twice}
 use Rattle.ffa_laws.proofs.Clean.{readably-append}
 use Rattle.ffa_laws.proofs.ReadRuns.{heard-messages}
@@ -110,7 +112,7 @@ module _ (e : ℕ) (s : State) (hides : ℕ → Bool) where
           of false = refl
 
       sends-b : (kind : Kind) (total : ℕ) → all_readably e s (opens e b kind (send_read b kind total)) ≡ all_readably e s (opens e s kind (send_read s kind total))
-      sends-b kind total = ap (λ tx. all_readably e s (opens e b kind (send_of kind (in_version (version_of s s.runner) (take total tx))))) tx-b ∙ opened-b kind (send_read s kind total)
+      sends-b kind total = ap (λ tx. all_readably e s (opens e b kind (send_of s.ffa kind (in_version (version_of s s.runner) (take total tx))))) tx-b ∙ opened-b kind (send_read s kind total)
 
       taken-b : (o : Option RetrieveDesc) → takes e b o ≡ takes e s o
       taken-b None = refl
@@ -121,6 +123,8 @@ module _ (e : ℕ) (s : State) (hides : ℕ → Bool) where
           of (Some t) = ap (λ ram. where_true (t.sender == e) (taking t.kind d.handle s.runner (right_for ram t s.runner d) ∷ [])) (ownership-b s hides)
 
       told-b : (call : calls.Call) → all_readably e s (told_by e b call) ≡ all_readably e s (told_by e s call)
+      told-b (MsgWait flags) =
+          ap (λ (c : Schedule). all_readably e s (where_true (c.runner == e) (Message (encode (msg_wait s flags).reply) ∷ []))) (waited-runs b flags ∙ sym (waited-runs s flags))
       told-b (MemDonate x) = sends-b Donate x.total
       told-b (MemLend x) = sends-b Lend x.total
       told-b (MemShare x) = sends-b Share x.total

@@ -79,7 +79,7 @@ module _ (s : State) (steady : IsSteady s) (word : ℕ) where
 
   own-answer : (ffa : Ffa) → version_answer ffa (view s.runner s) word ≡ version_answer ffa s word
   own-answer served.V1_1 = refl
-  own-answer served.V1_2 = ap (λ b. cond b (replies.Version 0x10001) (replies.Version 0xFFFFFFFF)) same-served
+  own-answer served.V1_2 = ap (λ b. cond b (replies.Version 0x10002) (replies.Version 0xFFFFFFFF)) same-served
 
   pub own-version : IsOwn s (ffa_version (view s.runner s) word) (ffa_version s word)
   own-version = (refl, λ none. (own-state s.ffa, own-answer s.ffa))

@@ -12,7 +12,7 @@ use Rattle.ffa_model.specs.declared.operation.Outcome.TheVariants.{Data, Done}
 use Rattle.ffa_model.specs.declared.operation.Size.{Size}
 use Rattle.ffa_model.specs.declared.operation.FaultKind.TheVariants.{Permission}
 use Rattle.ffa_model.specs.declared.call.Call as calls
-use Rattle.ffa_model.specs.declared.call.Call.TheVariants.{PartitionInfoGet, MemDonate, MemLend, MemShare, MemRetrieve, MemRelinquish, MemReclaim, MsgSend2, Version}
+use Rattle.ffa_model.specs.declared.call.Call.TheVariants.{PartitionInfoGet, MsgWait, MemDonate, MemLend, MemShare, MemRetrieve, MemRelinquish, MemReclaim, MsgSend2, Version}
 use Rattle.ffa_model.specs.declared.rights.Kind.{Kind}
 use Rattle.ffa_model.specs.declared.rights.Kind.TheVariants.{Share, Lend, Donate}
 use Rattle.ffa_model.specs.declared.rights.Rights.{Rights}
@@ -43,7 +43,7 @@ use Rattle.ffa_laws.specs.Isolation.{fills, fills_rx_page, is_send2}
 use Rattle.ffa_laws.specs.Moves.{by_runner}
 use Rattle.ffa_laws.specs.Steady.{IsSteady}
 use Rattle.ffa_laws.specs.Writers.{OnlyWriters, is_reclaim, is_reclaimed}
-use Rattle.ffa_laws.proofs.Form.{accessed-kept, served-kept}
+use Rattle.ffa_laws.proofs.Form.{accessed-kept, served-kept, waited-kept}
 use Rattle.ffa_laws.proofs.Given.{page-given}
 use Rattle.ffa_laws.proofs.SendLaws.{IsOffer, free, no-offer, offer, offered-owner}
 use Rattle.ffa_laws.proofs.SoundSteady.{sound-steady}
@@ -231,6 +231,7 @@ module _ (s : State) (sound : IsSoundState s) (p : ℕ) (no_right : may_store (a
         | false ↦ by-runner s.pages (info_bytes (version_of s s.runner) s.parties (uuid_bytes uuid))
       ]
   only-service (Version word) not_filled none later = version-leaves (λ t. page_bytes t p ≡ page_bytes s p) s.ffa s word refl (λ version. refl)
+  only-service (MsgWait flags) not_filled none later = waited-kept (λ t. page_bytes t p ≡ page_bytes s p) s flags refl refl
   only-service (MemDonate x) not_filled none later = send-elsewhere Donate x none
   only-service (MemLend x) not_filled none later = send-elsewhere Lend x none
   only-service (MemShare x) not_filled none later = send-elsewhere Share x none

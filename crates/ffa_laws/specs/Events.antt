@@ -188,7 +188,7 @@ sets e s receiver ks = where_true (receiver == e) (Pending (class_of s.runner) k
 
 -- what a call that nothing refuses tells e besides the public part; those that are not listed tell nothing
 abbrev pub told_by : Identifier → State → calls.Call → List Event
-told_by e s MsgWait = switches e (msg_wait s)
+told_by e s (MsgWait flags) = switches e (msg_wait s flags)
 told_by e s Yield = switches e (yield_now s)
 told_by e s (Run target context) = switches e (run_partition s target.0 context)
 told_by e s (DirectRequest message) = switches e (direct_request s message)

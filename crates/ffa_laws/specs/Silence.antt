@@ -25,7 +25,7 @@ may_change_public RxRelease = true
 may_change_public (RxtxMap tx rx pages) = true
 may_change_public (RxtxUnmap endpoint) = true
 may_change_public (PartitionInfoGet uuid flags) = true
-may_change_public MsgWait = true
+may_change_public (MsgWait flags) = true
 may_change_public Yield = true
 may_change_public (Run target context) = true
 may_change_public (DirectRequest message) = true
@@ -37,7 +37,7 @@ may_change_public call = false
 -- the events that a call may give
 abbrev pub may_tell : calls.Call → Event → Bool
 may_tell call (Public values) = may_change_public call
-may_tell MsgWait (Message x) = true
+may_tell (MsgWait flags) (Message x) = true
 may_tell Yield (Message x) = true
 may_tell (Run target context) (Message x) = true
 may_tell (DirectRequest message) (Message x) = true

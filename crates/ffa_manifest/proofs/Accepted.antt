@@ -9,6 +9,7 @@ use Rattle.uuid.specs.Text.{parsed}
 use Rattle.ffa_model.specs.declared.limits.TheConstants.{MOST_BLOCKS, MOST_ENDPOINTS, MOST_RAM, MOST_REGIONS}
 use Rattle.ffa_model.specs.declared.endpoint.Region.{Region}
 use Rattle.ffa_model.specs.declared.endpoint.Endpoint.{Endpoint}
+use Rattle.ffa_model.specs.declared.manifest.Ffa.{Ffa}
 use Rattle.ffa_model.specs.Bits.{is_set}
 use Rattle.ffa_model.specs.Manifest.{has_tables, is_accepted, is_ram_base, is_ram_size, is_from_to, is_placed, are_apart, regions_of, are_counted, are_identified, is_normal_world, is_partition, is_nil}
 use Rattle.ffa_manifest.specs.declared.error.ManifestError.TheVariants.{WrongKind, EndpointCount, Uuid, Property, RamBase, RamBlocks}
@@ -54,11 +55,11 @@ pub record EndpointRead (placed : Region → Bool) (before : List Endpoint) (e :
   pub regions : RegionsRead placed (regions_of before) e.regions.items
   pub identified : is_next before e ≡ true
 
-normal_world-read : (placed : Region → Bool) (ms : Members) (e : Endpoint) → normal_world placed ms ≡ Ok e → EndpointRead placed [] e
+normal_world-read : (ffa : Ffa) (placed : Region → Bool) (ms : Members) (e : Endpoint) → normal_world ffa placed ms ≡ Ok e → EndpointRead placed [] e
 unfolding normal_world
-normal_world-read placed ms e h =
+normal_world-read ffa placed ms e h =
     let (_, _, h1) = bind_ok (normal_world_keys ms) _ e h in
-    let (version, _, h2) = bind_ok (version_at ms) _ e h1 in
+    let (version, _, h2) = bind_ok (version_at ffa ms) _ e h1 in
     let (properties, few, h3) = bind_ok (normal_world_properties ms) _ e h2 in
     let (regions, read, h4) = bind_ok (regions_at placed [] ms) _ e h3 in
     let is : endpoint_of version (replicate 16 0) properties regions ≡ e = cc in
@@ -67,11 +68,11 @@ normal_world-read placed ms e h =
       identified = normal_world_properties-pass ms properties few;
     })
 
-partition-read : (placed : Region → Bool) (b : Endpoint) (bs : List Endpoint) (ms : Members) (e : Endpoint) → are_apart (regions_of (b ∷ bs)) ≡ true → partition placed (b ∷ bs) ms ≡ Ok e → EndpointRead placed (b ∷ bs) e
+partition-read : (ffa : Ffa) (placed : Region → Bool) (b : Endpoint) (bs : List Endpoint) (ms : Members) (e : Endpoint) → are_apart (regions_of (b ∷ bs)) ≡ true → partition ffa placed (b ∷ bs) ms ≡ Ok e → EndpointRead placed (b ∷ bs) e
 unfolding partition
-partition-read placed b bs ms e apart h =
+partition-read ffa placed b bs ms e apart h =
     let (_, _, h1) = bind_ok (partition_keys ms) _ e h in
-    let (version, _, h2) = bind_ok (version_at ms) _ e h1 in
+    let (version, _, h2) = bind_ok (version_at ffa ms) _ e h1 in
     let (uuid, some, h3) = bind_ok (uuid_at ms) _ e h2 in
     let (properties, few, h4) = bind_ok (properties_at ms) _ e h3 in
     let (regions, read, h5) = bind_ok (regions_at placed (regions_of (b ∷ bs)) ms) _ e h4 in
@@ -84,14 +85,14 @@ partition-read placed b bs ms e apart h =
 pub none-some : (n : ℕ) → (suc n == 0) ≡ false
 none-some n = ne_eqb (suc n) 0 (λ e. absurd (omega arith))
 
-next_endpoint-read : (placed : Region → Bool) (before : List Endpoint) (d : Data) (e : Endpoint) → are_apart (regions_of before) ≡ true → next_endpoint placed before d ≡ Ok e → EndpointRead placed before e
+next_endpoint-read : (ffa : Ffa) (placed : Region → Bool) (before : List Endpoint) (d : Data) (e : Endpoint) → are_apart (regions_of before) ≡ true → next_endpoint ffa placed before d ≡ Ok e → EndpointRead placed before e
 unfolding next_endpoint
-next_endpoint-read placed [] d e apart h =
+next_endpoint-read ffa placed [] d e apart h =
     let (ms, _, h1) = bind_ok (or_cause WrongKind (as_table d)) _ e h in
-    normal_world-read placed ms e h1
-next_endpoint-read placed (b ∷ bs) d e apart h =
+    normal_world-read ffa placed ms e h1
+next_endpoint-read ffa placed (b ∷ bs) d e apart h =
     let (ms, _, h1) = bind_ok (or_cause WrongKind (as_table d)) _ e h in
-    partition-read placed b bs ms e apart (sym (cond-false (suc (length bs) == 0) (normal_world placed ms) (partition placed (b ∷ bs) ms) (none-some (length bs))) ∙ h1)
+    partition-read ffa placed b bs ms e apart (sym (cond-false (suc (length bs) == 0) (normal_world ffa placed ms) (partition ffa placed (b ∷ bs) ms) (none-some (length bs))) ∙ h1)
 
 regions_of-last : (es : List Endpoint) (e : Endpoint) → regions_of (es ++ e ∷ []) ≡ regions_of es ++ e.regions.items
 regions_of-last [] e = append-nil e.regions.items
@@ -124,8 +125,8 @@ EndpointsRead-last placed es e so_far next = record {
   apart = rw (regions_of-last es e) next.regions.sound.apart;
 }
 
-one_more : (placed : Region → Bool) (es : List Endpoint) (d : Data) (e : Endpoint) → EndpointsRead placed es → next_endpoint placed es d ≡ Ok e → EndpointsRead placed (es ++ e ∷ [])
-one_more placed es d e so_far is = EndpointsRead-last placed es e so_far (next_endpoint-read placed es d e so_far.apart is)
+one_more : (ffa : Ffa) (placed : Region → Bool) (es : List Endpoint) (d : Data) (e : Endpoint) → EndpointsRead placed es → next_endpoint ffa placed es d ≡ Ok e → EndpointsRead placed (es ++ e ∷ [])
+one_more ffa placed es d e so_far is = EndpointsRead-last placed es e so_far (next_endpoint-read ffa placed es d e so_far.apart is)
 
 pub named_some : (es : List Endpoint) → is_from_to 1 MOST_ENDPOINTS (length es) ≡ true → are_named es ≡ true → are_identified es ≡ true
 named_some [] some h = cc
@@ -159,15 +160,15 @@ first-tables blocks count size few =
     le-leb (0 + count * (2 + blocks)) (512 * blocks) (omega (arith, rows, some))
 
 -- the RAM and the endpoints that were read make a machine
-pub accepted_parts : (ms : Members) (base blocks : ℕ) (ds : Items) (es : List Endpoint) → ram_base_at ms ≡ Ok base → ram_blocks_at ms ≡ Ok blocks → endpoint_items ms ≡ Ok ds
-    → endpoints_from (is_placed base 0 blocks (item_count ds)) ds ≡ Ok es → is_accepted base 0 blocks es ≡ true
+pub accepted_parts : (ffa : Ffa) (ms : Members) (base blocks : ℕ) (ds : Items) (es : List Endpoint) → ram_base_at ms ≡ Ok base → ram_blocks_at ms ≡ Ok blocks → endpoint_items ms ≡ Ok ds
+    → endpoints_from ffa (is_placed base 0 blocks (item_count ds)) ds ≡ Ok es → is_accepted base 0 blocks es ≡ true
 unfolding ram_base_at ram_blocks_at endpoint_items endpoints_from
-accepted_parts ms base blocks ds es base_is blocks_is items read =
+accepted_parts ffa ms base blocks ds es base_is blocks_is items read =
     let (first, _, h1) = bind_ok (integer_at (codes "ram_base") ms) _ base base_is in
     let (second, _, h2) = bind_ok (integer_at (codes "ram_blocks") ms) _ blocks blocks_is in
     let count : length es ≡ item_count ds = length-read_all _ ds es read in
     let few : is_from_to 1 MOST_ENDPOINTS (length es) ≡ true = ap (is_from_to 1 MOST_ENDPOINTS) count ∙ items_at-count _ MOST_ENDPOINTS EndpointCount ms ds items in
-    let all : EndpointsRead (is_placed base 0 blocks (item_count ds)) es = read_each-keeps (EndpointsRead (is_placed base 0 blocks (item_count ds))) (next_endpoint (is_placed base 0 blocks (item_count ds)))
-    (one_more (is_placed base 0 blocks (item_count ds))) [] ds es (record { named = refl; counted = refl; in_place = refl; apart = refl }) read in
+    let all : EndpointsRead (is_placed base 0 blocks (item_count ds)) es = read_each-keeps (EndpointsRead (is_placed base 0 blocks (item_count ds))) (next_endpoint ffa (is_placed base 0 blocks (item_count ds)))
+    (one_more ffa (is_placed base 0 blocks (item_count ds))) [] ds es (record { named = refl; counted = refl; in_place = refl; apart = refl }) read in
     let (base_good, size_good) = text-placed base blocks (tested_ok is_text_base RamBase first base h1) (tested_ok (is_from_to 1 MOST_BLOCKS) RamBlocks second blocks h2) in
     rw (base_good, size_good, few, first-tables blocks (length es) (tested_ok (is_from_to 1 MOST_BLOCKS) RamBlocks second blocks h2) few, named_some es few all.named, all.counted, count, all.in_place, all.apart) refl

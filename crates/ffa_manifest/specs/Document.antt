@@ -7,7 +7,6 @@ use Rattle.ffa_model.specs.declared.limits.TheConstants.{MOST_BLOCKS, MOST_RAM}
 use Rattle.ffa_model.specs.declared.endpoint.Endpoint.{Endpoint}
 use Rattle.ffa_model.specs.declared.manifest.Manifest.{Manifest}
 use Rattle.ffa_model.specs.declared.manifest.Ffa.{Ffa}
-use Rattle.ffa_model.specs.declared.manifest.Ffa.TheVariants.{V1_1}
 use Rattle.ffa_model.specs.Manifest.{is_from_to, is_placed}
 use Rattle.ffa_model.specs.Numbers.{PageIndex}
 use Rattle.ffa_manifest.specs.declared.error.ManifestError.{ManifestError}
@@ -16,8 +15,8 @@ use Rattle.ffa_manifest.specs.Reading.{◌>>=◌, or_cause, tested, item_count}
 use Rattle.ffa_manifest.specs.Keys.{only_keys, integer_at}
 use Rattle.ffa_manifest.specs.Endpoints.{endpoint_items, endpoints_from}
 
--- a machine's RAM, the first page of its tables, its endpoints in order, and whether worlds are told apart; a text doesn't say
--- it, and its tables begin RAM
+-- a machine's RAM, the first page of its tables, its endpoints in order, and the version of FF-A that it serves; a text doesn't
+-- say this version, and its tables begin RAM
 pub record Parts : Type 0 where
   pub ram_base : ℕ
   pub ram_blocks : ℕ
@@ -44,17 +43,17 @@ unfoldable pub ram_blocks_at : Members → Result ℕ ManifestError
 ram_blocks_at ms = integer_at (codes "ram_blocks") ms >>= tested (is_from_to 1 MOST_BLOCKS) RamBlocks
 
 -- the top table
-unfoldable pub machine : Members → Result Parts ManifestError
-machine ms = do
+unfoldable pub machine : Ffa → Members → Result Parts ManifestError
+machine ffa ms = do
   known ← top_keys ms
   base ← ram_base_at ms
   blocks ← ram_blocks_at ms
   ds ← endpoint_items ms
-  endpoints ← endpoints_from (is_placed base 0 blocks (item_count ds)) ds
-  Ok (record { ram_base = base; ram_blocks = blocks; tables = 0; endpoints = endpoints; ffa = V1_1 })
+  endpoints ← endpoints_from ffa (is_placed base 0 blocks (item_count ds)) ds
+  Ok (record { ram_base = base; ram_blocks = blocks; tables = 0; endpoints = endpoints; ffa = ffa })
 
--- the text as TOML, and then its tables, each whole in the order of its keys
-unfoldable pub machine_of : List ℕ → Result Parts ManifestError
-machine_of text = do
+-- the text as TOML, and then its tables, each whole in the order of its keys, where the machine serves this version of FF-A
+unfoldable pub machine_of : Ffa → List ℕ → Result Parts ManifestError
+machine_of ffa text = do
   ms ← or_cause Toml (parse_document text)
-  machine ms
+  machine ffa ms

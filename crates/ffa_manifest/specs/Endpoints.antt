@@ -5,9 +5,11 @@ use Rattle.uuid.specs.Text.{parsed}
 use Rattle.toml.specs.Data.{Data, Items, Members, as_table}
 use Rattle.ffa_model.specs.declared.limits.TheConstants.{MOST_ENDPOINTS}
 use Rattle.ffa_model.specs.declared.endpoint.Version as versions
-use Rattle.ffa_model.specs.declared.endpoint.Version.TheVariants.{Compact, V1_1}
+use Rattle.ffa_model.specs.declared.endpoint.Version.TheVariants.{Compact, V1_1, V1_2}
 use Rattle.ffa_model.specs.declared.endpoint.Region.{Region}
 use Rattle.ffa_model.specs.declared.endpoint.Endpoint.{Endpoint}
+use Rattle.ffa_model.specs.declared.manifest.Ffa.{Ffa}
+use Rattle.ffa_model.specs.declared.manifest.Ffa.TheVariants as served
 use Rattle.ffa_model.specs.Bits.{is_set}
 use Rattle.ffa_model.specs.Manifest.{is_nil, regions_of}
 use Rattle.ffa_manifest.specs.declared.error.ManifestError.{ManifestError}
@@ -22,13 +24,20 @@ normal_world_keys ms = only_keys (codes "version" ∷ codes "properties" ∷ cod
 unfoldable pub partition_keys : Members → Result (Unit {0}) ManifestError
 partition_keys ms = only_keys (codes "version" ∷ codes "uuid" ∷ codes "properties" ∷ codes "regions" ∷ []) ms
 
--- the version that a text names
-unfoldable pub version_of : List ℕ → Result versions.Version ManifestError
-version_of text =
-    if bytes_eq text (codes "1.1") then Ok V1_1 else if bytes_eq text (codes "compact") then Ok Compact else Err Version
+-- the version that a text names, where the machine serves this version of FF-A
+unfoldable pub version_of : Ffa → List ℕ → Result versions.Version ManifestError
+version_of served.V1_1 text =
+    if bytes_eq text (codes "1.1") then Ok V1_1
+    else if bytes_eq text (codes "compact") then Ok Compact
+    else Err Version
+version_of served.V1_2 text =
+    if bytes_eq text (codes "1.1") then Ok V1_1
+    else if bytes_eq text (codes "1.2") then Ok V1_2
+    else if bytes_eq text (codes "compact") then Ok Compact
+    else Err Version
 
-unfoldable pub version_at : Members → Result versions.Version ManifestError
-version_at ms = text_at (codes "version") ms >>= version_of
+unfoldable pub version_at : Ffa → Members → Result versions.Version ManifestError
+version_at ffa ms = text_at (codes "version") ms >>= version_of ffa
 
 -- the bytes that a text writes, which aren't all 0
 unfoldable pub identifier : List ℕ → Result (List ℕ) ManifestError
@@ -57,32 +66,32 @@ endpoint_of version uuid properties regions = record {
 }
 
 -- the first table
-unfoldable pub normal_world : (Region → Bool) → Members → Result Endpoint ManifestError
-normal_world is_placed ms = do
+unfoldable pub normal_world : Ffa → (Region → Bool) → Members → Result Endpoint ManifestError
+normal_world ffa is_placed ms = do
   known ← normal_world_keys ms
-  version ← version_at ms
+  version ← version_at ffa ms
   properties ← normal_world_properties ms
   regions ← regions_at is_placed [] ms
   Ok (endpoint_of version (replicate 16 0) properties regions)
 
 -- a table after those of these endpoints
-unfoldable pub partition : (Region → Bool) → List Endpoint → Members → Result Endpoint ManifestError
-partition is_placed before ms = do
+unfoldable pub partition : Ffa → (Region → Bool) → List Endpoint → Members → Result Endpoint ManifestError
+partition ffa is_placed before ms = do
   known ← partition_keys ms
-  version ← version_at ms
+  version ← version_at ffa ms
   uuid ← uuid_at ms
   properties ← properties_at ms
   regions ← regions_at is_placed (regions_of before) ms
   Ok (endpoint_of version uuid properties regions)
 
 -- the next endpoint of the array, after these
-unfoldable pub next_endpoint : (Region → Bool) → List Endpoint → Data → Result Endpoint ManifestError
-next_endpoint is_placed before d = do
+unfoldable pub next_endpoint : Ffa → (Region → Bool) → List Endpoint → Data → Result Endpoint ManifestError
+next_endpoint ffa is_placed before d = do
   ms ← or_cause WrongKind (as_table d)
-  if length before == 0 then normal_world is_placed ms else partition is_placed before ms
+  if length before == 0 then normal_world ffa is_placed ms else partition ffa is_placed before ms
 
-unfoldable pub endpoints_from : (Region → Bool) → Items → Result (List Endpoint) ManifestError
-endpoints_from is_placed ds = read_each (next_endpoint is_placed) [] ds
+unfoldable pub endpoints_from : Ffa → (Region → Bool) → Items → Result (List Endpoint) ManifestError
+endpoints_from ffa is_placed ds = read_each (next_endpoint ffa is_placed) [] ds
 
 unfoldable pub endpoint_items : Members → Result Items ManifestError
 endpoint_items ms = items_at (codes "endpoint") MOST_ENDPOINTS EndpointCount ms

@@ -7,6 +7,7 @@ use Rattle.toml.specs.Parse.{parse_document}
 use Rattle.ffa_model.specs.declared.limits.TheConstants.{MOST_REGIONS}
 use Rattle.ffa_model.specs.declared.endpoint.Region.{Region}
 use Rattle.ffa_model.specs.declared.endpoint.Endpoint.{Endpoint}
+use Rattle.ffa_model.specs.declared.manifest.Ffa.{Ffa}
 use Rattle.ffa_model.specs.Identifiers.{identifier}
 use Rattle.ffa_model.specs.Manifest.{is_placed, regions_of}
 use Rattle.ffa_manifest.specs.declared.error.ManifestError.{ManifestError}
@@ -41,27 +42,27 @@ unfoldable pub region_items : Members → Result Items ManifestError
 region_items ms = items_at (codes "regions") MOST_REGIONS RegionCount ms
 
 -- the items of the first table's regions, where all that is read before them is good
-unfoldable pub normal_world_items : Members → Result Items ManifestError
-normal_world_items ms = do
+unfoldable pub normal_world_items : Ffa → Members → Result Items ManifestError
+normal_world_items ffa ms = do
   known ← normal_world_keys ms
-  version ← version_at ms
+  version ← version_at ffa ms
   properties ← normal_world_properties ms
   region_items ms
 
 -- the same of a partition's table
-unfoldable pub partition_items : Members → Result Items ManifestError
-partition_items ms = do
+unfoldable pub partition_items : Ffa → Members → Result Items ManifestError
+partition_items ffa ms = do
   known ← partition_keys ms
-  version ← version_at ms
+  version ← version_at ffa ms
   uuid ← uuid_at ms
   properties ← properties_at ms
   region_items ms
 
 -- the same of a table after those of these endpoints
-unfoldable pub items_after : List Endpoint → Data → Result Items ManifestError
-items_after before d = do
+unfoldable pub items_after : Ffa → List Endpoint → Data → Result Items ManifestError
+items_after ffa before d = do
   ms ← or_cause WrongKind (as_table d)
-  if length before == 0 then normal_world_items ms else partition_items ms
+  if length before == 0 then normal_world_items ffa ms else partition_items ffa ms
 
 -- where an endpoint after these is refused: in one of its regions, or in none where what is read before them is refused
 abbrev pub IsWithin : (Region → Bool) → List Endpoint → Result Items ManifestError → Option ℕ → Type 0
@@ -69,15 +70,15 @@ IsWithin is_placed before items region =
     MatchResult items (λ ds. IsAtRegion is_placed (regions_of before) ds region) (λ cause. region ≡ None)
 
 -- an endpoint is named: those before it are read, and it is refused, in the region that is named or in none
-pub record IsAtEndpoint (is_placed : Region → Bool) (ds : Items) (location : Location) : Type 0 where
+pub record IsAtEndpoint (ffa : Ffa) (is_placed : Region → Bool) (ds : Items) (location : Location) : Type 0 where
   pub index : ℕ
   pub endpoints : List Endpoint
   pub value : Data
   pub named : location.endpoint ≡ Some (record { 0 = identifier index })
-  pub before : endpoints_from is_placed (first_items index ds) ≡ Ok endpoints
+  pub before : endpoints_from ffa is_placed (first_items index ds) ≡ Ok endpoints
   pub there : get_item index ds ≡ Some value
-  pub refused : IsErr (next_endpoint is_placed endpoints value)
-  pub within : IsWithin is_placed endpoints (items_after endpoints value) location.region
+  pub refused : IsErr (next_endpoint ffa is_placed endpoints value)
+  pub within : IsWithin is_placed endpoints (items_after ffa endpoints value) location.region
 
 -- neither an endpoint nor a region is named
 pub record IsAtTop (location : Location) : Type 0 where
@@ -99,15 +100,15 @@ top ms = do
   Ok (record { base = base; blocks = blocks; items = ds })
 
 -- where a document is refused: at an endpoint exactly where all else of the top table is good
-abbrev pub IsPlaceOf : Members → Location → Type 0
-IsPlaceOf ms location =
+abbrev pub IsPlaceOf : Ffa → Members → Location → Type 0
+IsPlaceOf ffa ms location =
     MatchResult (top ms)
-    (λ t. IsAtEndpoint (is_placed t.base 0 t.blocks (item_count t.items)) t.items location)
+    (λ t. IsAtEndpoint ffa (is_placed t.base 0 t.blocks (item_count t.items)) t.items location)
     (λ cause. IsAtTop location)
 
 -- the same of a text, which may be no document
-abbrev pub IsPlaceIn : List ℕ → Location → Type 0
-IsPlaceIn text location = MatchOption (parse_document text) (IsAtTop location) (λ ms. IsPlaceOf ms location)
+abbrev pub IsPlaceIn : Ffa → List ℕ → Location → Type 0
+IsPlaceIn ffa text location = MatchOption (parse_document text) (IsAtTop location) (λ ms. IsPlaceOf ffa ms location)
 
 -- the byte where the parser's error begins, of what is found where a text is no document
 abbrev pub error_start : Found → Option ℕ
@@ -130,12 +131,12 @@ pub record IsGarbled (bytes : List ℕ) (r : ManifestRefusal) : Type 0 where
   pub byte : IsSomeAnd r.byte (IsValidUpTo bytes)
 
 -- they are one, which is refused
-pub record IsUnread (bytes : List ℕ) (r : ManifestRefusal) : Type 0 where
+pub record IsUnread (ffa : Ffa) (bytes : List ℕ) (r : ManifestRefusal) : Type 0 where
   pub text : IsUtf8 bytes
-  pub cause : machine_of bytes ≡ Err r.cause
-  pub place : IsPlaceIn bytes r.place
+  pub cause : machine_of ffa bytes ≡ Err r.cause
+  pub place : IsPlaceIn ffa bytes r.place
   pub byte : IsByteIn bytes r
 
--- why and where bytes are refused
-abbrev pub IsRefused : List ℕ → ManifestRefusal → Type 0
-IsRefused bytes r = IsGarbled bytes r ⊎ IsUnread bytes r
+-- why and where bytes are refused, where the machine serves this version of FF-A
+abbrev pub IsRefused : Ffa → List ℕ → ManifestRefusal → Type 0
+IsRefused ffa bytes r = IsGarbled bytes r ⊎ IsUnread ffa bytes r

@@ -11,7 +11,7 @@ use crate::endpoints::endpoints_from;
 use crate::error::ManifestError;
 use crate::keys::{integer_at, items_at, only_keys};
 use crate::region_space::{RegionSpace, is_text_base};
-use ffa_model::{Address, MOST_BLOCKS, MOST_ENDPOINTS, Manifest, PageNo};
+use ffa_model::{Address, Ffa, MOST_BLOCKS, MOST_ENDPOINTS, Manifest, PageNo};
 use toml::{Table, Value};
 
 /// The keys of the top table.
@@ -59,10 +59,10 @@ pub(crate) fn endpoint_items(table: &Table) -> Result<&[Value], ManifestError>
     )
 }
 
-/// The machine that the top table of a manifest describes.
+/// The machine of this version of FF-A that the top table of a manifest describes.
 #[tactic(auto, using(crate::proofs::Views::item_count_view), unfolding(crate::specs::Document::machine))]
-pub(crate) fn machine(table: &Table) -> Result<Manifest, ManifestError>
-    ensures { Exact parts_of result (machine_in (table_view table.now)) }
+pub(crate) fn machine(table: &Table, ffa: Ffa) -> Result<Manifest, ManifestError>
+    ensures { Exact parts_of result (machine_in ffa (table_view table.now)) }
 {
     top_keys(table)?;
     let ram_base = ram_base_at(table)?;
@@ -74,6 +74,7 @@ pub(crate) fn machine(table: &Table) -> Result<Manifest, ManifestError>
         blocks: ram_blocks,
         endpoints: values.len() as u32,
     };
-    let endpoints = endpoints_from(values, &space)?;
-    Ok(Manifest::of(Address(ram_base), ram_blocks, PageNo(0), endpoints))
+    let endpoints = endpoints_from(values, ffa, &space)?;
+    let manifest = Manifest::of(Address(ram_base), ram_blocks, PageNo(0), endpoints);
+    Ok(manifest.with_ffa(ffa))
 }

@@ -14,7 +14,7 @@ use crate::region_space::RegionSpace;
 use crate::regions::regions_at;
 use arrayvec::ArrayVec;
 use bitflags::Flags;
-use ffa_model::{Endpoint, MOST_ENDPOINTS, Properties, Version};
+use ffa_model::{Endpoint, Ffa, MOST_ENDPOINTS, Properties, Version};
 use toml::{Table, Value};
 
 /// The keys of the first endpoint's table.
@@ -37,23 +37,24 @@ pub(crate) fn partition_keys(table: &Table) -> Result<(), ManifestError>
     only_keys(table, &PARTITION_KEYS)
 }
 
-// The version that a text names.
+// The version that a text names, where the machine serves this version of FF-A.
 #[tactic(auto, unfolding(crate::specs::Endpoints::version_of))]
-fn version_of(text: &str) -> Result<Version, ManifestError>
-    ensures { Exact (λ v. v) result (version_named text.now) }
+fn version_of(text: &str, ffa: Ffa) -> Result<Version, ManifestError>
+    ensures { Exact (λ v. v) result (version_named ffa text.now) }
 {
-    match text {
-        "1.1" => Ok(Version::V1_1),
-        "compact" => Ok(Version::Compact),
+    match (text, ffa) {
+        ("1.1", _) => Ok(Version::V1_1),
+        ("1.2", Ffa::V1_2) => Ok(Version::V1_2),
+        ("compact", _) => Ok(Version::Compact),
         _ => Err(ManifestError::Version),
     }
 }
 
 #[tactic(auto, unfolding(crate::specs::Endpoints::version_at))]
-pub(crate) fn version_at(table: &Table) -> Result<Version, ManifestError>
-    ensures { Exact (λ v. v) result (version_in (table_view table.now)) }
+pub(crate) fn version_at(table: &Table, ffa: Ffa) -> Result<Version, ManifestError>
+    ensures { Exact (λ v. v) result (version_in ffa (table_view table.now)) }
 {
-    version_of(text_at(table, "version")?)
+    version_of(text_at(table, "version")?, ffa)
 }
 
 #[tactic(auto, unfolding(crate::specs::Endpoints::uuid_at))]
@@ -95,11 +96,11 @@ pub(crate) fn normal_world_properties(table: &Table) -> Result<Properties, Manif
 }
 
 #[tactic(auto, unfolding(crate::specs::Endpoints::normal_world))]
-fn normal_world(table: &Table, space: &RegionSpace) -> Result<Endpoint, ManifestError>
-    ensures { Exact (λ e. e) result (normal_world_in (is_in space.now) (table_view table.now)) }
+fn normal_world(table: &Table, ffa: Ffa, space: &RegionSpace) -> Result<Endpoint, ManifestError>
+    ensures { Exact (λ e. e) result (normal_world_in ffa (is_in space.now) (table_view table.now)) }
 {
     normal_world_keys(table)?;
-    let version = version_at(table)?;
+    let version = version_at(table, ffa)?;
     let properties = normal_world_properties(table)?;
     let regions = regions_at(table, space, &[])?;
     Ok(Endpoint {
@@ -113,13 +114,14 @@ fn normal_world(table: &Table, space: &RegionSpace) -> Result<Endpoint, Manifest
 #[tactic(auto, unfolding(crate::specs::Endpoints::partition))]
 fn partition(
     table: &Table,
+    ffa: Ffa,
     space: &RegionSpace,
     before: &[Endpoint],
 ) -> Result<Endpoint, ManifestError>
-    ensures { Exact (λ e. e) result (partition_in (is_in space.now) before.now (table_view table.now)) }
+    ensures { Exact (λ e. e) result (partition_in ffa (is_in space.now) before.now (table_view table.now)) }
 {
     partition_keys(table)?;
-    let version = version_at(table)?;
+    let version = version_at(table, ffa)?;
     let uuid = uuid_at(table)?;
     let properties = properties_at(table)?;
     let regions = regions_at(table, space, before)?;
@@ -134,19 +136,20 @@ fn partition(
 #[tactic(auto, unfolding(crate::specs::Endpoints::next_endpoint))]
 pub(crate) fn next_endpoint(
     value: &Value,
+    ffa: Ffa,
     space: &RegionSpace,
     before: &[Endpoint],
 ) -> Result<Endpoint, ManifestError>
-    ensures { Exact (λ e. e) result (next_in (is_in space.now) before.now (view value.now)) }
+    ensures { Exact (λ e. e) result (next_in ffa (is_in space.now) before.now (view value.now)) }
 {
     let table = match value.as_table() {
         None => return Err(ManifestError::WrongKind),
         Some(table) => table,
     };
     if before.is_empty() {
-        normal_world(table, space)
+        normal_world(table, ffa, space)
     } else {
-        partition(table, space, before)
+        partition(table, ffa, space, before)
     }
 }
 
@@ -154,14 +157,15 @@ pub(crate) fn next_endpoint(
 #[tactic(auto, unfolding(crate::specs::Endpoints::endpoints_from))]
 pub(crate) fn endpoints_from(
     values: &[Value],
+    ffa: Ffa,
     space: &RegionSpace,
 ) -> Result<ArrayVec<Endpoint, MOST_ENDPOINTS>, ManifestError>
     requires { length values.now ≤ MOST_ENDPOINTS }
-    ensures { Exact (λ es. es.items) result (endpoints_in (is_in space.now) (items_view values.now)) }
+    ensures { Exact (λ es. es.items) result (endpoints_in ffa (is_in space.now) (items_view values.now)) }
 {
     let mut endpoints = ArrayVec::new();
     for value in values {
-        let endpoint = next_endpoint(value, space, endpoints.as_slice())?;
+        let endpoint = next_endpoint(value, ffa, space, endpoints.as_slice())?;
         endpoints.push(endpoint);
     }
     Ok(endpoints)

@@ -46,7 +46,7 @@ pub enum ManifestError {
     /// A region has a page of a region that was read before.
     #[error("M13 RegionOverlap")]
     RegionOverlap,
-    /// `version` is neither `1.1` nor `compact`.
+    /// `version` is neither `1.1` nor `compact`, nor `1.2` for a machine of FF-A 1.2.
     #[error("M14 Version")]
     Version,
     /// RAM hasn't all tables from the page on that is told. No text tells one: its tables begin RAM. Numbers between are other

@@ -32,7 +32,7 @@ use crate::regions::{
 };
 use crate::text_place::TextPlace;
 use arrayvec::ArrayVec;
-use ffa_model::{Endpoint, EndpointId, MOST_ENDPOINTS, MOST_REGIONS, Region};
+use ffa_model::{Endpoint, EndpointId, Ffa, MOST_ENDPOINTS, MOST_REGIONS, Region};
 use std::alloc::{AllocError, Global};
 use std::fmt::InlineText;
 use toml::{Table, Value};
@@ -74,12 +74,12 @@ pub(crate) fn in_no_endpoint(found: Found) -> Location
     }
 }
 
-/// Where the document of a top table is refused.
+/// Where the document of a top table is refused for a machine of this version of FF-A.
 // With this second walk, the functions that read a manifest need not carry places.
 #[tactic(auto, using(crate::proofs::Views::item_count_view), unfolding(crate::specs::Document::machine, crate::specs::Places::top))]
-pub(crate) fn in_top(alloc: Global, table: &Table) -> Result<Location, AllocError>
-    requires { IsErr (machine (table_view table.now)) }
-    ensures place { IfOk result (IsPlaceOf (table_view table.now)) }
+pub(crate) fn in_top(alloc: Global, table: &Table, ffa: Ffa) -> Result<Location, AllocError>
+    requires { IsErr (machine ffa (table_view table.now)) }
+    ensures place { IfOk result (IsPlaceOf ffa (table_view table.now)) }
     ensures met { IfOk result (λ location. SharesPage location.found) }
 {
     if top_keys(table).is_err() {
@@ -103,26 +103,27 @@ pub(crate) fn in_top(alloc: Global, table: &Table) -> Result<Location, AllocErro
         blocks,
         endpoints: values.len() as u32,
     };
-    in_endpoints(alloc, values, &space)
+    in_endpoints(alloc, values, ffa, &space)
 }
 
 // Where the endpoints of a top table are refused.
 fn in_endpoints(
     alloc: Global,
     values: &[Value],
+    ffa: Ffa,
     space: &RegionSpace,
 ) -> Result<Location, AllocError>
     requires few { length values.now ≤ MOST_ENDPOINTS }
-    requires refused { IsErr (endpoints_in (is_in space.now) (items_view values.now)) }
-    ensures place { IfOk result (IsAtEndpoint (is_in space.now) (items_view values.now)) }
+    requires refused { IsErr (endpoints_in ffa (is_in space.now) (items_view values.now)) }
+    ensures place { IfOk result (IsAtEndpoint ffa (is_in space.now) (items_view values.now)) }
     ensures met { IfOk result (λ location. SharesPage location.found) }
 {
     let mut before = ArrayVec::<Endpoint, MOST_ENDPOINTS>::new();
     for (index, value) in values.iter().enumerate() {
-        match next_endpoint(value, space, before.as_slice()) {
+        match next_endpoint(value, ffa, space, before.as_slice()) {
             Ok(endpoint) => before.push(endpoint),
             Err(_) => {
-                let (region, found) = in_endpoint(alloc, value, space, before.as_slice())?;
+                let (region, found) = in_endpoint(alloc, value, ffa, space, before.as_slice())?;
                 return Ok(Location {
                     endpoint: Some(EndpointId::at(index)),
                     region,
@@ -139,22 +140,23 @@ fn in_endpoints(
 fn in_endpoint(
     alloc: Global,
     value: &Value,
+    ffa: Ffa,
     space: &RegionSpace,
     before: &[Endpoint],
 ) -> Result<(Option<usize>, Found), AllocError>
     requires few { length before.now ≤ MOST_ENDPOINTS }
-    requires refused { IsErr (next_endpoint_in (is_in space.now) before.now (view value.now)) }
+    requires refused { IsErr (next_endpoint_in ffa (is_in space.now) before.now (view value.now)) }
     ensures region { IfOk result (λ place.
-        IsWithin (is_in space.now) before.now (items_after before.now (view value.now)) place.0) }
+        IsWithin (is_in space.now) before.now (items_after ffa before.now (view value.now)) place.0) }
     ensures met { IfOk result (λ place. SharesPage place.1) }
 {
     let Some(table) = value.as_table() else {
         return Ok((None, no_table(alloc, value)?));
     };
     if before.is_empty() {
-        in_normal_world(alloc, table, space)
+        in_normal_world(alloc, table, ffa, space)
     } else {
-        in_partition(alloc, table, space, before)
+        in_partition(alloc, table, ffa, space, before)
     }
 }
 
@@ -163,18 +165,19 @@ fn in_endpoint(
 fn in_normal_world(
     alloc: Global,
     table: &Table,
+    ffa: Ffa,
     space: &RegionSpace,
 ) -> Result<(Option<usize>, Found), AllocError>
-    requires { IsErr (normal_world (is_in space.now) (table_view table.now)) }
+    requires { IsErr (normal_world ffa (is_in space.now) (table_view table.now)) }
     ensures region { IfOk result (λ place.
-        IsWithin (is_in space.now) [] (normal_world_items (table_view table.now)) place.0) }
+        IsWithin (is_in space.now) [] (normal_world_items ffa (table_view table.now)) place.0) }
     ensures met { IfOk result (λ place. SharesPage place.1) }
 {
     if normal_world_keys(table).is_err() {
         return Ok((None, unknown_key(alloc, table, &NORMAL_WORLD_KEYS)?));
     }
-    if version_at(table).is_err() {
-        return Ok((None, at_version(alloc, table)?));
+    if version_at(table, ffa).is_err() {
+        return Ok((None, at_version(alloc, table, ffa)?));
     }
     if normal_world_properties(table).is_err() {
         let fault = Fault::Words("must be 0, 2, 4 or 6");
@@ -188,20 +191,21 @@ fn in_normal_world(
 fn in_partition(
     alloc: Global,
     table: &Table,
+    ffa: Ffa,
     space: &RegionSpace,
     before: &[Endpoint],
 ) -> Result<(Option<usize>, Found), AllocError>
     requires few { length before.now ≤ MOST_ENDPOINTS }
-    requires refused { IsErr (partition (is_in space.now) before.now (table_view table.now)) }
+    requires refused { IsErr (partition ffa (is_in space.now) before.now (table_view table.now)) }
     ensures region { IfOk result (λ place.
-        IsWithin (is_in space.now) before.now (partition_items (table_view table.now)) place.0) }
+        IsWithin (is_in space.now) before.now (partition_items ffa (table_view table.now)) place.0) }
     ensures met { IfOk result (λ place. SharesPage place.1) }
 {
     if partition_keys(table).is_err() {
         return Ok((None, unknown_key(alloc, table, &PARTITION_KEYS)?));
     }
-    if version_at(table).is_err() {
-        return Ok((None, at_version(alloc, table)?));
+    if version_at(table, ffa).is_err() {
+        return Ok((None, at_version(alloc, table, ffa)?));
     }
     if uuid_at(table).is_err() {
         let fault = Fault::Words("must be a UUID other than the Nil UUID");
@@ -408,12 +412,20 @@ fn at_array(
     }
 }
 
-// The same of an endpoint's version.
-fn at_version(alloc: Global, table: &Table) -> Result<Found, AllocError>
+// The same of an endpoint's version, where the machine serves this version of FF-A.
+fn at_version(alloc: Global, table: &Table, ffa: Ffa) -> Result<Found, AllocError>
     ensures { IfOk result SharesPage }
 {
-    let fault = Fault::Words("must be \"1.1\" or \"compact\"");
-    at_key(alloc, table, "version", fault)
+    at_key(alloc, table, "version", version_fault(table, ffa))
+}
+
+// What is wrong with an endpoint's version.
+fn version_fault(table: &Table, ffa: Ffa) -> Fault {
+    match ffa {
+        Ffa::V1_1 if version_at(table, Ffa::V1_2).is_ok() => Fault::NewerVersion,
+        Ffa::V1_1 => Fault::Words("must be \"1.1\" or \"compact\""),
+        Ffa::V1_2 => Fault::Words("must be \"1.1\", \"1.2\" or \"compact\""),
+    }
 }
 
 fn no_table(alloc: Global, value: &Value) -> Result<Found, AllocError>

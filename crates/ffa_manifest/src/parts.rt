@@ -1,12 +1,12 @@
 // SPDX-License-Identifier: MIT OR Apache-2.0
 //! The machine of parts, without a text. The reader of a text has the same tests once more: its causes come endpoint by
 //! endpoint, and those of an early one would come behind those for which a later one tells no parts.
-ghost use Rattle.std.specs.Prelude.{true, ◌≡◌, ◌↔◌, ◌++◌, [], Some, None, IfOk, IfErr, IsOk};
+ghost use Rattle.std.specs.Prelude.{true, ◌≡◌, ◌&&◌, ◌↔◌, ◌++◌, [], Some, None, IfOk, IfErr, IsOk};
 ghost use Rattle.std.specs.Result.{result_err};
 ghost use Rattle.ffa_model.specs.Manifest.{is_accepted, is_nil as is_nil_in, regions_of};
 ghost use Rattle.ffa_manifest.specs.Document.{parts_of};
 ghost use Rattle.ffa_manifest.specs.RegionSpace.{is_in};
-ghost use Rattle.ffa_manifest.specs.Parts.{parts_from, first_cause, first_failure, tests_of_each, region_tests, endpoint_tests, are_properties_after, is_uuid_after};
+ghost use Rattle.ffa_manifest.specs.Parts.{parts_from, first_cause, first_failure, tests_of_each, region_tests, endpoint_tests, are_properties_after, have_versions, is_uuid_after, is_version};
 
 use crate::endpoints::receives;
 use crate::error::ManifestError;
@@ -15,13 +15,21 @@ use crate::regions::{is_apart_from_all, is_free};
 use arrayvec::ArrayVec;
 use bitflags::Flags;
 use ffa_model::{
-    Address, Endpoint, MOST_BLOCKS, MOST_ENDPOINTS, Manifest, PageNo, Properties, Region,
+    Address, Endpoint, Ffa, MOST_BLOCKS, MOST_ENDPOINTS, Manifest, PageNo, Properties, Region,
+    Version,
 };
 
 fn is_nil(uuid: &[u8; 16]) -> bool
     ensures { result ≡ is_nil_in uuid.now }
 {
     uuid.iter().all(|byte| *byte == 0)
+}
+
+// Whether a machine of this version of FF-A may have an endpoint of the version.
+pub(crate) fn is_version(ffa: Ffa, version: Version) -> bool
+    ensures { result ≡ is_version ffa version }
+{
+    !matches!((ffa, version), (Ffa::V1_1, Version::V1_2))
 }
 
 // Whether an endpoint after these may have the UUID.
@@ -82,12 +90,16 @@ fn check_regions(
 // An endpoint after these.
 #[tactic(auto, unfolding(crate::specs::Parts::endpoint_tests))]
 pub(crate) fn check_endpoint(
+    ffa: Ffa,
     space: &RegionSpace,
     before: &[Endpoint],
     endpoint: &Endpoint,
 ) -> Result<(), ManifestError>
-    ensures { result_err result ≡ first_failure (endpoint_tests (is_in space.now) before.now endpoint.now) }
+    ensures { result_err result ≡ first_failure (endpoint_tests ffa (is_in space.now) before.now endpoint.now) }
 {
+    if !is_version(ffa, endpoint.version) {
+        return Err(ManifestError::Version);
+    }
     if !is_uuid_after(before, &endpoint.uuid) {
         return Err(ManifestError::Uuid);
     }
@@ -100,30 +112,37 @@ pub(crate) fn check_endpoint(
     check_regions(space, before, endpoint.regions.as_slice())
 }
 
-fn check_endpoints(space: &RegionSpace, endpoints: &[Endpoint]) -> Result<(), ManifestError>
-    ensures { result_err result ≡ first_failure (tests_of_each (endpoint_tests (is_in space.now)) [] endpoints.now) }
+fn check_endpoints(
+    ffa: Ffa,
+    space: &RegionSpace,
+    endpoints: &[Endpoint],
+) -> Result<(), ManifestError>
+    ensures { result_err result ≡ first_failure (tests_of_each (endpoint_tests ffa (is_in space.now)) [] endpoints.now) }
 {
     for (index, endpoint) in endpoints.iter().enumerate() {
-        check_endpoint(space, &endpoints[..index], endpoint)?;
+        check_endpoint(ffa, space, &endpoints[..index], endpoint)?;
     }
     Ok(())
 }
 
-/// The manifest of these parts, or the first cause for which they make no machine, in the order in which a text would be
-/// read: RAM's place and size, the count of endpoints, whether RAM has their tables from a page on, and then each endpoint whole before the next: its UUID (zeros for
-/// the normal world, other than zeros for a partition), its properties, the count of its regions, and each region: its
-/// place, and whether it is apart from all that came before it. It takes no memory.
+/// The manifest of these parts for a machine of this version of FF-A, or the first cause for which they make no machine, in
+/// the order in which a text would be read: RAM's place and size, the count of endpoints, whether RAM has their tables from a
+/// page on, and then each endpoint whole before the next: its version, its UUID (zeros for the normal world, other than zeros
+/// for a partition), its properties, the count of its regions, and each region: its place, and whether it is apart from all
+/// that came before it. It takes no memory.
 #[tactic(auto, unfolding(crate::specs::Parts::first_cause, crate::specs::Parts::tests_of))]
 pub fn of_parts(
     ram_base: u32,
     ram_blocks: u32,
     tables: PageNo,
     endpoints: ArrayVec<Endpoint, MOST_ENDPOINTS>,
+    ffa: Ffa,
 ) -> Result<Manifest, ManifestError>
-    ensures accepted { IfOk result (λ m. (parts_of m ≡ parts_from ram_base tables.0 ram_blocks endpoints.items)
-        × (first_cause (parts_from ram_base tables.0 ram_blocks endpoints.items) ≡ None)) }
-    ensures refused { IfErr result (λ e. first_cause (parts_from ram_base tables.0 ram_blocks endpoints.items) ≡ Some e) }
-    ensures accepted_where { IsOk result ↔ (is_accepted ram_base tables.0 ram_blocks endpoints.items ≡ true) }
+    ensures accepted { IfOk result (λ m. (parts_of m ≡ parts_from ffa ram_base tables.0 ram_blocks endpoints.items)
+        × (first_cause (parts_from ffa ram_base tables.0 ram_blocks endpoints.items) ≡ None)) }
+    ensures refused { IfErr result (λ e. first_cause (parts_from ffa ram_base tables.0 ram_blocks endpoints.items) ≡ Some e) }
+    ensures accepted_where { IsOk result ↔ ((is_accepted ram_base tables.0 ram_blocks endpoints.items
+        && have_versions ffa endpoints.items) ≡ true) }
 {
     if !is_ram_base(ram_base) {
         return Err(ManifestError::RamBase);
@@ -144,6 +163,7 @@ pub fn of_parts(
         blocks: ram_blocks,
         endpoints: count as u32,
     };
-    check_endpoints(&space, endpoints.as_slice())?;
-    Ok(Manifest::of(Address(ram_base), ram_blocks, tables, endpoints))
+    check_endpoints(ffa, &space, endpoints.as_slice())?;
+    let manifest = Manifest::of(Address(ram_base), ram_blocks, tables, endpoints);
+    Ok(manifest.with_ffa(ffa))
 }

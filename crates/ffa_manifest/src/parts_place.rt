@@ -6,9 +6,9 @@ ghost use Rattle.ffa_manifest.specs.Parts.{parts_from, region_tests};
 ghost use Rattle.ffa_manifest.specs.PartsPlaces.{place_from, place_of, refused_from, region_place};
 ghost use Rattle.ffa_manifest.specs.RegionSpace.{is_in};
 
-use crate::parts::{are_properties_after, check_endpoint, check_region, is_uuid_after};
+use crate::parts::{are_properties_after, check_endpoint, check_region, is_uuid_after, is_version};
 use crate::region_space::{RegionSpace, has_tables, is_ram_base, is_ram_size};
-use ffa_model::{Endpoint, EndpointId, MOST_ENDPOINTS, PageNo, Region};
+use ffa_model::{Endpoint, EndpointId, Ffa, MOST_ENDPOINTS, PageNo, Region};
 
 /// Where a manifest without a text is refused: at an endpoint, or at none where that is RAM, the count of endpoints or their tables.
 #[derive(Clone, Copy, Debug, PartialEq, Eq)]
@@ -32,10 +32,15 @@ fn refused_region(space: &RegionSpace, before: &[Endpoint], regions: &[Region]) 
 
 // In which region an endpoint after these is refused.
 #[tactic(auto, unfolding(crate::specs::PartsPlaces::region_place))]
-fn region_place(space: &RegionSpace, before: &[Endpoint], endpoint: &Endpoint) -> Option<usize>
-    ensures { result ≡ region_place (is_in space.now) before.now endpoint.now }
+fn region_place(
+    ffa: Ffa,
+    space: &RegionSpace,
+    before: &[Endpoint],
+    endpoint: &Endpoint,
+) -> Option<usize>
+    ensures { result ≡ region_place ffa (is_in space.now) before.now endpoint.now }
 {
-    let is_named = is_uuid_after(before, &endpoint.uuid);
+    let is_named = is_version(ffa, endpoint.version) && is_uuid_after(before, &endpoint.uuid);
     if !is_named || !are_properties_after(before, endpoint.properties) {
         return None;
     }
@@ -43,16 +48,16 @@ fn region_place(space: &RegionSpace, before: &[Endpoint], endpoint: &Endpoint) -
 }
 
 // Where these endpoints are refused.
-fn in_endpoints(space: &RegionSpace, endpoints: &[Endpoint]) -> PartsPlace
+fn in_endpoints(ffa: Ffa, space: &RegionSpace, endpoints: &[Endpoint]) -> PartsPlace
     requires { length endpoints.now ≤ MOST_ENDPOINTS }
-    ensures { result ≡ place_from (is_in space.now) [] endpoints.now }
+    ensures { result ≡ place_from ffa (is_in space.now) [] endpoints.now }
 {
     for (index, endpoint) in endpoints.iter().enumerate() {
         let before = &endpoints[..index];
-        if check_endpoint(space, before, endpoint).is_err() {
+        if check_endpoint(ffa, space, before, endpoint).is_err() {
             return PartsPlace {
                 endpoint: Some(EndpointId::at(index)),
-                region: region_place(space, before, endpoint),
+                region: region_place(ffa, space, before, endpoint),
             };
         }
     }
@@ -66,9 +71,10 @@ pub fn place_of_parts(
     ram_blocks: u32,
     tables: PageNo,
     endpoints: &[Endpoint],
+    ffa: Ffa,
 ) -> PartsPlace
     requires { length endpoints.now ≤ MOST_ENDPOINTS }
-    ensures { result ≡ place_of (parts_from ram_base tables.0 ram_blocks endpoints.now) }
+    ensures { result ≡ place_of (parts_from ffa ram_base tables.0 ram_blocks endpoints.now) }
 {
     if !is_ram_base(ram_base) || !is_ram_size(ram_base, ram_blocks) || endpoints.is_empty() {
         return PartsPlace::nowhere();
@@ -83,7 +89,7 @@ pub fn place_of_parts(
         blocks: ram_blocks,
         endpoints: count as u32,
     };
-    in_endpoints(&space, endpoints)
+    in_endpoints(ffa, &space, endpoints)
 }
 
 impl PartsPlace {

@@ -118,6 +118,8 @@ pub enum Fault {
     RegionBase(Bounds),
     /// No region has so many pages.
     PageCount,
+    /// A machine of FF-A 1.1 has no endpoint of this version, but one of FF-A 1.2 may have it.
+    NewerVersion,
     /// What these words say.
     Words(&'static str),
 }
@@ -135,6 +137,10 @@ impl fmt::Display for Fault {
             Fault::BlockCount => write!(f, "must be 1 to {MOST_BLOCKS}"),
             Fault::RegionBase(bounds) => write!(f, "must be a multiple of 1000, from {bounds}"),
             Fault::PageCount => write!(f, "must be 1 or more"),
+            Fault::NewerVersion => write!(
+                f,
+                "must be \"1.1\" or \"compact\"; \"1.2\" needs a machine of FF-A 1.2"
+            ),
             Fault::Words(words) => write!(f, "{words}"),
         }
     }

@@ -10,7 +10,7 @@ use Rattle.ffa_model.specs.declared.transaction.Receiver.{Receiver}
 use Rattle.ffa_model.specs.declared.transaction.Range.{Range}
 use Rattle.ffa_model.specs.Lists.{listed}
 use Rattle.ffa_model.specs.FirstFlaws.{first_of}
-use Rattle.ffa_model.specs.DescriptorPlaces.{u32_at, endpoint_field, permissions_field, access_flags_field, composite_field, access_reserved_field}
+use Rattle.ffa_model.specs.DescriptorPlaces.{Versioned, u32_at, endpoint_field, permissions_field, access_flags_field, composite_field, accesses_size, is_access_rest_zero}
 use Rattle.ffa_model.specs.SendDescriptor.{holds_at_each, is_grant, is_named, are_apart, range_end}
 use Rattle.ffa_memdesc.specs.Reading.{is_range_after, is_receiver_after, range_after, range_of, ranges_of, receiver_after, receiver_of, receivers_of, access_flaw_at, access_flaw_after, range_flaw_at, range_flaw_after}
 use Rattle.ffa_memdesc.proofs.Firsts.{first_here, first_none}
@@ -31,9 +31,9 @@ one_more read test n xs ys x t before same e grown =
     }
 
 -- the receivers of an array, which stands at a place, in a send by this sender
-module _ (kind : Kind) (sender composite : ℕ) (b : List ℕ) (array : ℕ) where
+module _ (kind : Kind) (sender composite : ℕ) (b : Versioned) (array : ℕ) where
   pub receivers_more : (n at : ℕ) (xs ys earlier : List Receiver) (x : Receiver)
-      → Passed (receiver_after b array) (is_receiver_after kind sender composite b array) n xs → earlier ≡ xs → at ≡ array + 16 * n
+      → Passed (receiver_after b array) (is_receiver_after kind sender composite b array) n xs → earlier ≡ xs → at ≡ array + accesses_size b.version n
       → Some x ≡ receiver_of kind sender composite b at earlier → ys ≡ xs ++ x ∷ []
       → Passed (receiver_after b array) (is_receiver_after kind sender composite b array) (n + 1) ys
   unfolding receiver_of
@@ -54,16 +54,16 @@ module _ (kind : Kind) (sender composite : ℕ) (b : List ℕ) (array : ℕ) whe
       let p3 = and_parts _ _ p4.0 in
       let p2 = and_parts _ _ p3.0 in
       let p1 = and_parts _ _ p2.0 in
-      let grant : is_grant kind (permissions_field b (array + 16 * i)) ≡ true = p1.0 in
-      let flags : eqb (access_flags_field b (array + 16 * i)) 0 ≡ true = p1.1 in
-      let same : eqb (composite_field b (array + 16 * i)) composite ≡ true = p2.1 in
-      let reserved : eqb (access_reserved_field b (array + 16 * i)) 0 ≡ true = p3.1 in
-      let other : not (eqb (endpoint_field b (array + 16 * i)) sender) ≡ true = p4.1 in
-      let new : not (is_named (endpoint_field b (array + 16 * i)) (listed i (receiver_after b array))) ≡ true = p5.1 in
+      let grant : is_grant kind (permissions_field b.bytes (array + accesses_size b.version i)) ≡ true = p1.0 in
+      let flags : eqb (access_flags_field b.bytes (array + accesses_size b.version i)) 0 ≡ true = p1.1 in
+      let same : eqb (composite_field b.bytes (array + accesses_size b.version i)) composite ≡ true = p2.1 in
+      let reserved : is_access_rest_zero b.version b.bytes (array + accesses_size b.version i) ≡ true = p3.1 in
+      let other : not (eqb (endpoint_field b.bytes (array + accesses_size b.version i)) sender) ≡ true = p4.1 in
+      let new : not (is_named (endpoint_field b.bytes (array + accesses_size b.version i)) (listed i (receiver_after b array))) ≡ true = p5.1 in
       rw (grant, flags, same, reserved, other, new) refl
 
   pub receivers_flaw : (n count at : ℕ) (xs earlier : List Receiver) (flaw : Flaw) → n < count
-      → Passed (receiver_after b array) (is_receiver_after kind sender composite b array) n xs → earlier ≡ xs → at ≡ array + 16 * n
+      → Passed (receiver_after b array) (is_receiver_after kind sender composite b array) n xs → earlier ≡ xs → at ≡ array + accesses_size b.version n
       → Some flaw ≡ access_flaw_at kind sender composite b at earlier n → Some flaw ≡ first_of count (access_flaw_after kind sender composite b array)
   receivers_flaw n count at xs earlier flaw lt before same place e =
       first_here count (access_flaw_after kind sender composite b array) n flaw lt

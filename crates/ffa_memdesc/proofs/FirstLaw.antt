@@ -16,6 +16,7 @@ use Rattle.ffa_model.specs.declared.flaw.RangeFlaw.{RangeFlaw}
 use Rattle.ffa_model.specs.declared.flaw.RangeFlaw.TheVariants.{Empty, Unaligned as RangeUnaligned, TooHigh, Reserved as RangeReserved, Overlap}
 use Rattle.ffa_model.specs.declared.flaw.RetrieveFlaw.{RetrieveFlaw}
 use Rattle.ffa_model.specs.declared.flaw.RetrieveFlaw.TheVariants.{Attributes as AskedAttributes, Flags as AskedFlags, AccessCount, ReceiverIsAnother, DataPermission, InstructionPermission, PermissionsReserved, AccessFlags as AskedAccessFlags, CompositeTold, AccessReserved as AskedAccessReserved}
+use Rattle.ffa_model.specs.declared.manifest.Ffa.{Ffa}
 use Rattle.ffa_model.specs.declared.rights.Kind.{Kind}
 use Rattle.ffa_model.specs.declared.transaction.Receiver.{Receiver}
 use Rattle.ffa_model.specs.DescriptorPlaces.{Versioned, access_place, endpoint_field, receiver_count, range_count}
@@ -39,10 +40,10 @@ header_told P b flaw lift e =
     condition_told P _ _ _ flaw e5 (λ x. lift HeaderReserved x) (λ e6.
     nothing_told (P flaw) flaw e6))))))
 
-send_header_told : (P : Flaw → Type 0) (kind : Kind) (b : Versioned) (flaw : Flaw) → ((f : SendFlaw) → SendHeaderBreaks kind b f → P (FlawOfSend f)) → Some flaw ≡ send_header_flaw kind b → P flaw
+send_header_told : (P : Flaw → Type 0) (ffa : Ffa) (kind : Kind) (b : Versioned) (flaw : Flaw) → ((f : SendFlaw) → SendHeaderBreaks ffa kind b f → P (FlawOfSend f)) → Some flaw ≡ send_header_flaw ffa kind b → P flaw
 unfolding send_header_flaw
-send_header_told P kind b flaw lift e =
-    condition_told P _ _ _ flaw e (λ x. lift Attributes (eqb-false _ _ x)) (λ e1.
+send_header_told P ffa kind b flaw lift e =
+    condition_told P _ _ _ flaw e (λ x. lift Attributes x) (λ e1.
     condition_told P _ _ _ flaw e1 (λ x. lift Flags (leb-false _ _ x)) (λ e2.
     condition_told P _ _ _ flaw e2 (λ x. lift Handle (eqb-false _ _ x)) (λ e3.
     condition_told P _ _ _ flaw e3 (λ x. lift NoReceiver (leb-false _ _ x)) (λ e4.
@@ -61,7 +62,7 @@ access_told P kind b i flaw lift e =
     condition_told P _ _ _ flaw e (λ x. lift Permissions (λ h. both_ways _ x (grant_again kind _ h))) (λ e1.
     condition_told P _ _ _ flaw e1 (λ x. lift AccessFlags (eqb-false _ _ x)) (λ e2.
     condition_told P _ _ _ flaw e2 (λ x. lift OtherComposite (eqb-false _ _ x)) (λ e3.
-    condition_told P _ _ _ flaw e3 (λ x. lift AccessReserved (eqb-false _ _ x)) (λ e4.
+    condition_told P _ _ _ flaw e3 (λ x. lift AccessReserved x) (λ e4.
     condition_told P _ _ _ flaw e4 (λ x. lift ReceiverIsSender (eqb-true _ _ (not-false _ x))) (λ e5.
     condition_told P _ _ _ flaw e5 (λ x. lift ReceiverTwice (named_told b i _ x)) (λ e6.
     nothing_told (P flaw) flaw e6))))))
@@ -99,29 +100,29 @@ total_told P b flaw lift e =
     condition_told P _ _ _ flaw e (λ x. lift Total (eqb-false _ _ x)) (λ e1.
     nothing_told (P flaw) flaw e1)
 
-accesses_told : (kind : Kind) (b : Versioned) (flaw : Flaw) → Some flaw ≡ first_of (receiver_count b) (access_flaw kind b) → SendBreaks kind b flaw
-accesses_told kind b flaw e =
+accesses_told : (ffa : Ffa) (kind : Kind) (b : Versioned) (flaw : Flaw) → Some flaw ≡ first_of (receiver_count b) (access_flaw kind b) → SendBreaks ffa kind b flaw
+accesses_told ffa kind b flaw e =
     let (i, lt, told) = first_told (receiver_count b) (access_flaw kind b) flaw e in
-    access_told (SendBreaks kind b) kind b i flaw (λ f breaks. (lt, breaks)) told
+    access_told (SendBreaks ffa kind b) kind b i flaw (λ f breaks. (lt, breaks)) told
 
-ranges_told : (kind : Kind) (b : Versioned) (flaw : Flaw) → Some flaw ≡ first_of (range_count b) (range_flaw b) → SendBreaks kind b flaw
-ranges_told kind b flaw e =
+ranges_told : (ffa : Ffa) (kind : Kind) (b : Versioned) (flaw : Flaw) → Some flaw ≡ first_of (range_count b) (range_flaw b) → SendBreaks ffa kind b flaw
+ranges_told ffa kind b flaw e =
     let (i, lt, told) = first_told (range_count b) (range_flaw b) flaw e in
-    range_told (SendBreaks kind b) b i flaw (λ f breaks. (lt, breaks)) told
+    range_told (SendBreaks ffa kind b) b i flaw (λ f breaks. (lt, breaks)) told
 
 -- one of two, each of which tells only what is broken
 either : (P : Flaw → Type 0) (o p : Option Flaw) (flaw : Flaw) → (Some flaw ≡ o → P flaw) → (Some flaw ≡ p → P flaw) → Some flaw ≡ option_or o p → P flaw
 either P o p flaw here later e = elim (or_told o p flaw e) [ inl x ↦ here x | inr x ↦ later x ]
 
-pub send_flaw_breaks : (kind : Kind) (b : Versioned) (flaw : Flaw) → Some flaw ≡ send_flaw kind b → SendBreaks kind b flaw
+pub send_flaw_breaks : (ffa : Ffa) (kind : Kind) (b : Versioned) (flaw : Flaw) → Some flaw ≡ send_flaw ffa kind b → SendBreaks ffa kind b flaw
 unfolding send_flaw
-send_flaw_breaks kind b flaw =
-    let P = SendBreaks kind b in
+send_flaw_breaks ffa kind b flaw =
+    let P = SendBreaks ffa kind b in
     either P _ _ flaw (header_told P b flaw (λ f x. x))
-    (either P _ _ flaw (send_header_told P kind b flaw (λ f x. x))
-    (either P _ _ flaw (accesses_told kind b flaw)
+    (either P _ _ flaw (send_header_told P ffa kind b flaw (λ f x. x))
+    (either P _ _ flaw (accesses_told ffa kind b flaw)
     (either P _ _ flaw (composite_told P b flaw (λ f x. x))
-    (either P _ _ flaw (ranges_told kind b flaw) (total_told P b flaw (λ f x. x))))))
+    (either P _ _ flaw (ranges_told ffa kind b flaw) (total_told P b flaw (λ f x. x))))))
 
 asked_header_told : (P : Flaw → Type 0) (endpoint : ℕ) (b : Versioned) (flaw : Flaw) → ((f : RetrieveFlaw) → AskedBreaks endpoint b f → P (FlawOfRetrieve f)) → Some flaw ≡ asked_header_flaw b → P flaw
 unfolding asked_header_flaw
@@ -140,7 +141,7 @@ asked_access_told P endpoint b flaw lift e =
     condition_told P _ _ _ flaw e3 (λ x. lift PermissionsReserved (eqb-false _ _ x)) (λ e4.
     condition_told P _ _ _ flaw e4 (λ x. lift AskedAccessFlags (eqb-false _ _ x)) (λ e5.
     condition_told P _ _ _ flaw e5 (λ x. lift CompositeTold (eqb-false _ _ x)) (λ e6.
-    condition_told P _ _ _ flaw e6 (λ x. lift AskedAccessReserved (eqb-false _ _ x)) (λ e7.
+    condition_told P _ _ _ flaw e6 (λ x. lift AskedAccessReserved x) (λ e7.
     nothing_told (P flaw) flaw e7)))))))
 
 pub retrieve_flaw_breaks : (endpoint : ℕ) (b : Versioned) (flaw : Flaw) → Some flaw ≡ retrieve_flaw endpoint b → RetrieveBreaks endpoint b flaw

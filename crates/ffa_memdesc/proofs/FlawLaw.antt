@@ -1,6 +1,6 @@
 -- SPDX-License-Identifier: MIT OR Apache-2.0
 -- A condition that is broken: no record fits.
-use Rattle.std.proofs.Common.{ℕ, List, inl, inr, arith}
+use Rattle.std.proofs.Common.{◌<◌, ◌≤◌, ℕ, ℕ, List, inl, inr, arith}
 use Rattle.std.proofs.lemmas.Bool.{both_ways}
 use Rattle.ffa_model.specs.declared.flaw.Flaw.{Flaw}
 use Rattle.ffa_model.specs.declared.flaw.Flaw.TheVariants.{Header, Send as FlawOfSend, Access, Composite, Range as FlawOfRange, Retrieve as FlawOfRetrieve, Relinquish as FlawOfRelinquish}
@@ -19,6 +19,7 @@ use Rattle.ffa_model.specs.declared.flaw.RetrieveFlaw.TheVariants.{Attributes as
 use Rattle.ffa_model.specs.declared.flaw.RelinquishFlaw.TheVariants.{Short as RelinquishShort, Flags as RelinquishFlags, EndpointCount}
 use Rattle.ffa_model.specs.declared.descriptor.RetrieveDesc.{RetrieveDesc}
 use Rattle.ffa_model.specs.declared.descriptor.RelinquishDesc.{RelinquishDesc}
+use Rattle.ffa_model.specs.declared.manifest.Ffa.{Ffa}
 use Rattle.ffa_model.specs.declared.rights.Kind.{Kind}
 use Rattle.ffa_model.specs.DescriptorPlaces.{Versioned, IsHeader, flags_field, kind_code}
 use Rattle.ffa_model.specs.SendDescriptor.{Send, SendRecord}
@@ -35,44 +36,47 @@ header_breaks b ArrayInHeader broken h = let behind = h.behind in omega arith
 header_breaks b ArrayOutside broken h = let inside = h.inside in omega arith
 header_breaks b HeaderReserved broken h = both_ways _ broken h.reserved
 
-send_header_breaks : (kind : Kind) (b : Versioned) (flaw : SendFlaw) (r : SendRecord) → SendHeaderBreaks kind b flaw → Send kind b r → ⊥
-send_header_breaks kind b Attributes r broken h = broken h.attributes
-send_header_breaks kind b Flags r broken h = let flags = h.flags in omega arith
-send_header_breaks kind b Handle r broken h = broken h.handle
-send_header_breaks kind b NoReceiver r broken h = let least = h.least in omega arith
-send_header_breaks kind b ManyReceivers r broken h = let most = h.most in omega arith
+both_orders : (m n : ℕ) → m < n → n ≤ m → ⊥
+both_orders m n less most = omega arith
 
-access_breaks : (kind : Kind) (b : Versioned) (i : ℕ) (flaw : AccessFlaw) (r : SendRecord) → SendBreaks kind b (Access i flaw) → Send kind b r → ⊥
-access_breaks kind b i Permissions r (lt, broken) h = broken (h.accesses i lt).permissions
-access_breaks kind b i AccessFlags r (lt, broken) h = broken (h.accesses i lt).flags
-access_breaks kind b i OtherComposite r (lt, broken) h = broken (h.accesses i lt).composite
-access_breaks kind b i AccessReserved r (lt, broken) h = broken (h.accesses i lt).reserved
-access_breaks kind b i ReceiverIsSender r (lt, broken) h = (h.accesses i lt).other broken
-access_breaks kind b i ReceiverTwice r (lt, (j, before, same)) h = h.distinct i j before lt same
+send_header_breaks : (ffa : Ffa) (kind : Kind) (b : Versioned) (flaw : SendFlaw) (r : SendRecord) → SendHeaderBreaks ffa kind b flaw → Send ffa kind b r → ⊥
+send_header_breaks ffa kind b Attributes r broken h = both_ways _ broken h.attributes
+send_header_breaks ffa kind b Flags r broken h = both_orders _ _ broken h.flags
+send_header_breaks ffa kind b Handle r broken h = broken h.handle
+send_header_breaks ffa kind b NoReceiver r broken h = let least = h.least in omega arith
+send_header_breaks ffa kind b ManyReceivers r broken h = let most = h.most in omega arith
 
-composite_breaks : (kind : Kind) (b : Versioned) (flaw : CompositeFlaw) (r : SendRecord) → CompositeBreaks b flaw → Send kind b r → ⊥
-composite_breaks kind b Unaligned r broken h = broken h.composite.aligned
-composite_breaks kind b InArray r broken h = let behind = h.composite.behind in omega arith
-composite_breaks kind b NoRange r broken h = let least = h.composite.least in omega arith
-composite_breaks kind b ManyRanges r broken h = let most = h.composite.most in omega arith
-composite_breaks kind b CompositeReserved r broken h = broken h.composite.reserved
-composite_breaks kind b Total r broken h = broken h.total
-composite_breaks kind b _ r broken h = let inside = h.composite.inside in omega arith
+access_breaks : (ffa : Ffa) (kind : Kind) (b : Versioned) (i : ℕ) (flaw : AccessFlaw) (r : SendRecord) → SendBreaks ffa kind b (Access i flaw) → Send ffa kind b r → ⊥
+access_breaks ffa kind b i Permissions r (lt, broken) h = broken (h.accesses i lt).permissions
+access_breaks ffa kind b i AccessFlags r (lt, broken) h = broken (h.accesses i lt).flags
+access_breaks ffa kind b i OtherComposite r (lt, broken) h = broken (h.accesses i lt).composite
+access_breaks ffa kind b i AccessReserved r (lt, broken) h = both_ways _ broken (h.accesses i lt).reserved
+access_breaks ffa kind b i ReceiverIsSender r (lt, broken) h = (h.accesses i lt).other broken
+access_breaks ffa kind b i ReceiverTwice r (lt, (j, before, same)) h = h.distinct i j before lt same
 
-range_breaks : (kind : Kind) (b : Versioned) (i : ℕ) (flaw : RangeFlaw) (r : SendRecord) → SendBreaks kind b (FlawOfRange i flaw) → Send kind b r → ⊥
-range_breaks kind b i Empty r (lt, broken) h = let least = (h.each i lt).least in omega arith
-range_breaks kind b i RangeUnaligned r (lt, broken) h = broken (h.each i lt).aligned
-range_breaks kind b i TooHigh r (lt, broken) h = let below = (h.each i lt).below in omega arith
-range_breaks kind b i RangeReserved r (lt, broken) h = broken (h.each i lt).reserved
-range_breaks kind b i Overlap r (lt, (j, before, overlap)) h = overlap (h.apart i j before lt)
+composite_breaks : (ffa : Ffa) (kind : Kind) (b : Versioned) (flaw : CompositeFlaw) (r : SendRecord) → CompositeBreaks b flaw → Send ffa kind b r → ⊥
+composite_breaks ffa kind b Unaligned r broken h = broken h.composite.aligned
+composite_breaks ffa kind b InArray r broken h = let behind = h.composite.behind in omega arith
+composite_breaks ffa kind b NoRange r broken h = let least = h.composite.least in omega arith
+composite_breaks ffa kind b ManyRanges r broken h = let most = h.composite.most in omega arith
+composite_breaks ffa kind b CompositeReserved r broken h = broken h.composite.reserved
+composite_breaks ffa kind b Total r broken h = broken h.total
+composite_breaks ffa kind b _ r broken h = let inside = h.composite.inside in omega arith
 
-pub send_breaks : (kind : Kind) (b : Versioned) (flaw : Flaw) (r : SendRecord) → SendBreaks kind b flaw → Send kind b r → ⊥
-send_breaks kind b (Header flaw) r broken h = header_breaks b flaw broken h.header
-send_breaks kind b (FlawOfSend flaw) r broken h = send_header_breaks kind b flaw r broken h
-send_breaks kind b (Access i flaw) r broken h = access_breaks kind b i flaw r broken h
-send_breaks kind b (Composite flaw) r broken h = composite_breaks kind b flaw r broken h
-send_breaks kind b (FlawOfRange i flaw) r broken h = range_breaks kind b i flaw r broken h
-send_breaks kind b _ r broken h = broken
+range_breaks : (ffa : Ffa) (kind : Kind) (b : Versioned) (i : ℕ) (flaw : RangeFlaw) (r : SendRecord) → SendBreaks ffa kind b (FlawOfRange i flaw) → Send ffa kind b r → ⊥
+range_breaks ffa kind b i Empty r (lt, broken) h = let least = (h.each i lt).least in omega arith
+range_breaks ffa kind b i RangeUnaligned r (lt, broken) h = broken (h.each i lt).aligned
+range_breaks ffa kind b i TooHigh r (lt, broken) h = let below = (h.each i lt).below in omega arith
+range_breaks ffa kind b i RangeReserved r (lt, broken) h = broken (h.each i lt).reserved
+range_breaks ffa kind b i Overlap r (lt, (j, before, overlap)) h = overlap (h.apart i j before lt)
+
+pub send_breaks : (ffa : Ffa) (kind : Kind) (b : Versioned) (flaw : Flaw) (r : SendRecord) → SendBreaks ffa kind b flaw → Send ffa kind b r → ⊥
+send_breaks ffa kind b (Header flaw) r broken h = header_breaks b flaw broken h.header
+send_breaks ffa kind b (FlawOfSend flaw) r broken h = send_header_breaks ffa kind b flaw r broken h
+send_breaks ffa kind b (Access i flaw) r broken h = access_breaks ffa kind b i flaw r broken h
+send_breaks ffa kind b (Composite flaw) r broken h = composite_breaks ffa kind b flaw r broken h
+send_breaks ffa kind b (FlawOfRange i flaw) r broken h = range_breaks ffa kind b i flaw r broken h
+send_breaks ffa kind b _ r broken h = broken
 
 asked_breaks : (e : ℕ) (b : Versioned) (flaw : RetrieveFlaw) (r : RetrieveDesc) → AskedBreaks e b flaw → Retrieve e b r → ⊥
 asked_breaks e b AskedAttributes r (none, normal) h = elim h.attributes [ inl a ↦ none a | inr a ↦ normal a ]
@@ -84,7 +88,7 @@ asked_breaks e b InstructionPermission r broken h = h.known_exec broken
 asked_breaks e b PermissionsReserved r broken h = broken h.no_more
 asked_breaks e b AskedAccessFlags r broken h = broken h.access_flags
 asked_breaks e b CompositeTold r broken h = broken h.composite
-asked_breaks e b AskedAccessReserved r broken h = broken h.access_reserved
+asked_breaks e b AskedAccessReserved r broken h = both_ways _ broken h.access_reserved
 
 pub retrieve_breaks : (e : ℕ) (b : Versioned) (flaw : Flaw) (r : RetrieveDesc) → RetrieveBreaks e b flaw → Retrieve e b r → ⊥
 retrieve_breaks e b (Header flaw) r broken h = header_breaks b flaw broken h.header

@@ -65,7 +65,7 @@ facts e b header h access =
       no_more = eqb-true _ _ q3.1;
       access_flags = eqb-true _ _ q4.1;
       composite = eqb-true _ _ q5.1;
-      access_reserved = eqb-true _ _ q6.1;
+      access_reserved = q6.1;
       sender = refl;
       handle = refl;
       tag = refl;
@@ -93,7 +93,7 @@ unfolding is_retrieve_access
 access_test e b r h =
     and_from _ _ (and_from _ _ (and_from _ _ (and_from _ _ (and_from _ _ (and_from _ _
     (eq-eqb _ _ h.caller) (differ_again _ _ (not_reserved _ (data_code r.level) (data_code_few r.level) h.level))) (differ_again _ _ h.known_exec))
-    (eq-eqb _ _ h.no_more)) (eq-eqb _ _ h.access_flags)) (eq-eqb _ _ h.composite)) (eq-eqb _ _ h.access_reserved)
+    (eq-eqb _ _ h.no_more)) (eq-eqb _ _ h.access_flags)) (eq-eqb _ _ h.composite)) h.access_reserved
 
 same_parts : (r : RetrieveDesc) (sender handle tag : ℕ) (kind : Option Kind) (level : Option Data) (exec : Bool)
     → sender ≡ r.sender.0 → handle ≡ r.handle → tag ≡ r.tag → kind ≡ r.kind → level ≡ r.level → exec ≡ r.exec

@@ -3,12 +3,13 @@
 use Rattle.std.proofs.Common.{◌≡◌, ◌≢◌, ℕ, ◌<◌, ◌==◌, Bool, true, false, not, List, Some, refl, sym, ap, ◌∙◌, subst, inl, inr}
 use Rattle.std.proofs.lemmas.Bool.{and_parts, and_from, or_cases, not-true, leb-true, eqb-true, eqb-false, le-leb, eq-eqb, ne_eqb}
 use Rattle.std.proofs.lemmas.Option.{cond_some, same_Some}
+use Rattle.ffa_model.specs.declared.manifest.Ffa.{Ffa}
 use Rattle.ffa_model.specs.declared.rights.Kind.{Kind}
 use Rattle.ffa_model.specs.declared.rights.Kind.TheVariants.{Donate}
 use Rattle.ffa_model.specs.declared.transaction.Range.{Range}
 use Rattle.ffa_model.specs.declared.transaction.Receiver.{Receiver}
 use Rattle.ffa_model.specs.DescriptorPlaces.{is_header, flags_field, sender_field, tag_field, receiver_count, access_place, endpoint_field, range_count, range_place, Versioned}
-use Rattle.ffa_model.specs.SendDescriptor.{SendRecord, Send, IsGrant, IsAccess, IsComposite, IsRange, AreApart, is_grant, is_access, is_access_beside, is_composite, is_range, are_apart, is_range_beside, is_send_header, is_send_body, holds_at_each, send_in, send_counted, send_of, receiver_in, receivers_in, range_in, ranges_in}
+use Rattle.ffa_model.specs.SendDescriptor.{flags_but_type, SendRecord, Send, IsGrant, IsAccess, IsComposite, IsRange, AreApart, is_grant, is_access, is_access_beside, is_composite, is_range, are_apart, is_range_beside, is_send_header, is_send_body, holds_at_each, send_in, send_counted, send_of, receiver_in, receivers_in, range_in, ranges_in}
 use Rattle.ffa_memdesc.proofs.Listed.{holds_told, holds_again, none_told, none_again, all_told, all_again}
 use Rattle.ffa_memdesc.proofs.Decisions.{cond_true, differ, differ_again, either_told, either_again, either_true}
 use Rattle.ffa_memdesc.proofs.HeaderLaw.{header_told, header_again}
@@ -31,14 +32,14 @@ access_told kind b at e =
       permissions = grant_told kind _ p1.0;
       flags = eqb-true _ _ p1.1;
       composite = eqb-true _ _ p2.1;
-      reserved = eqb-true _ _ p3.1;
+      reserved = p3.1;
       other = differ _ _ p4.1;
     }
 
 access_again : (kind : Kind) (b : Versioned) (at : ℕ) → IsAccess kind b at → is_access kind b at ≡ true
 access_again kind b at h =
     and_from _ _ (and_from _ _ (and_from _ _ (and_from _ _
-    (grant_again kind _ h.permissions) (eq-eqb _ _ h.flags)) (eq-eqb _ _ h.composite)) (eq-eqb _ _ h.reserved)) (differ_again _ _ h.other)
+    (grant_again kind _ h.permissions) (eq-eqb _ _ h.flags)) (eq-eqb _ _ h.composite)) h.reserved) (differ_again _ _ h.other)
 
 composite_told : (b : Versioned) → is_composite b ≡ true → IsComposite b
 composite_told b e =
@@ -117,17 +118,17 @@ offers_again b h =
     and_from _ _ (range_again b.bytes (range_place b i) (h i lt).range)
     (all_again (are_apart (range_in b i)) (range_in b) i (λ j before. apart_again (range_in b i) (range_in b j) ((h i lt).apart j before))))
 
-counted : (t : Bool) (kind : Kind) (b : Versioned) (r : SendRecord) → send_counted t kind b ≡ Some r → (t ≡ true) × (is_send_body kind b ≡ true) × (send_in b ≡ r)
-counted true kind b r e = let (body, same) = cond_some (is_send_body kind b) (send_in b) r e in (refl, body, same)
-counted false kind b r e = absurd cc
+counted : (t : Bool) (ffa : Ffa) (kind : Kind) (b : Versioned) (r : SendRecord) → send_counted t ffa kind b ≡ Some r → (t ≡ true) × (is_send_body kind b ≡ true) × (send_in ffa kind b ≡ r)
+counted true ffa kind b r e = let (body, same) = cond_some (is_send_body kind b) (send_in ffa kind b) r e in (refl, body, same)
+counted false ffa kind b r e = absurd cc
 
-counted_again : (t : Bool) (kind : Kind) (b : Versioned) → t ≡ true → is_send_body kind b ≡ true → send_counted t kind b ≡ Some (send_in b)
-counted_again true kind b e body = cond_true (is_send_body kind b) (send_in b) body
-counted_again false kind b e body = absurd cc
+counted_again : (t : Bool) (ffa : Ffa) (kind : Kind) (b : Versioned) → t ≡ true → is_send_body kind b ≡ true → send_counted t ffa kind b ≡ Some (send_in ffa kind b)
+counted_again true ffa kind b e body = cond_true (is_send_body kind b) (send_in ffa kind b) body
+counted_again false ffa kind b e body = absurd cc
 
-facts : (kind : Kind) (b : Versioned) → is_header b ≡ true → is_send_header kind b ≡ true → is_composite b ≡ true → is_send_body kind b ≡ true → Send kind b (send_in b)
+facts : (ffa : Ffa) (kind : Kind) (b : Versioned) → is_header b ≡ true → is_send_header ffa kind b ≡ true → is_composite b ≡ true → is_send_body kind b ≡ true → Send ffa kind b (send_in ffa kind b)
 unfolding is_send_header is_send_body
-facts kind b header e composite body =
+facts ffa kind b header e composite body =
     let p4 = and_parts _ _ e in
     let p3 = and_parts _ _ p4.0 in
     let p2 = and_parts _ _ p3.0 in
@@ -136,7 +137,7 @@ facts kind b header e composite body =
     let q1 = and_parts _ _ q2.0 in
     record {
       header = header_told b header;
-      attributes = eqb-true _ _ p1.0;
+      attributes = p1.0;
       flags = leb-true _ _ p1.1;
       handle = eqb-true _ _ p2.1;
       least = leb-true _ _ p3.1;
@@ -154,37 +155,37 @@ facts kind b header e composite body =
       ranges = refl;
     }
 
-header_test : (kind : Kind) (b : Versioned) (r : SendRecord) → Send kind b r → is_send_header kind b ≡ true
+header_test : (ffa : Ffa) (kind : Kind) (b : Versioned) (r : SendRecord) → Send ffa kind b r → is_send_header ffa kind b ≡ true
 unfolding is_send_header
-header_test kind b r h =
+header_test ffa kind b r h =
     and_from _ _ (and_from _ _ (and_from _ _ (and_from _ _
-    (eq-eqb _ _ h.attributes) (le-leb _ _ h.flags)) (eq-eqb _ _ h.handle)) (le-leb _ _ h.least)) (le-leb _ _ h.most)
+    h.attributes (le-leb _ _ h.flags)) (eq-eqb _ _ h.handle)) (le-leb _ _ h.least)) (le-leb _ _ h.most)
 
-body_test : (kind : Kind) (b : Versioned) (r : SendRecord) → Send kind b r → is_send_body kind b ≡ true
+body_test : (ffa : Ffa) (kind : Kind) (b : Versioned) (r : SendRecord) → Send ffa kind b r → is_send_body kind b ≡ true
 unfolding is_send_body
-body_test kind b r h =
+body_test ffa kind b r h =
     and_from _ _ (and_from _ _
     (receives_again kind b (λ i lt. record { access = h.accesses i lt; new = λ j before. h.distinct i j before lt }))
     (offers_again b (λ i lt. record { range = h.each i lt; apart = λ j before. h.apart i j before lt }))) (eq-eqb _ _ h.total)
 
-pub send_is : (b : Versioned) (r : SendRecord) → r.sender ≡ sender_field b → r.zero ≡ (flags_field b == 1) → r.tag ≡ tag_field b
-    → r.receivers ≡ receivers_in b (receiver_count b) → r.ranges ≡ ranges_in b (range_count b) → send_in b ≡ r
-send_is b r s z t n f = rw (← s, ← z, ← t, ← n, ← f) refl
+pub send_is : (ffa : Ffa) (kind : Kind) (b : Versioned) (r : SendRecord) → r.sender ≡ sender_field b → r.zero ≡ (flags_but_type ffa kind (flags_field b) == 1) → r.tag ≡ tag_field b
+    → r.receivers ≡ receivers_in b (receiver_count b) → r.ranges ≡ ranges_in b (range_count b) → send_in ffa kind b ≡ r
+send_is ffa kind b r s z t n f = rw (← s, ← z, ← t, ← n, ← f) refl
 
-pub send_told : (kind : Kind) (b : Versioned) (r : SendRecord) → send_of kind b ≡ Some r → Send kind b r
+pub send_told : (ffa : Ffa) (kind : Kind) (b : Versioned) (r : SendRecord) → send_of ffa kind b ≡ Some r → Send ffa kind b r
 unfolding send_of
-send_told kind b r e =
-    let tests = counted _ kind b r e in
+send_told ffa kind b r e =
+    let tests = counted _ ffa kind b r e in
     let p2 = and_parts _ _ tests.0 in
     let p1 = and_parts _ _ p2.0 in
-    subst (λ (d : SendRecord). Send kind b d) tests.2 (facts kind b p1.0 p1.1 p2.1 tests.1)
+    subst (λ (d : SendRecord). Send ffa kind b d) tests.2 (facts ffa kind b p1.0 p1.1 p2.1 tests.1)
 
-pub send_again : (kind : Kind) (b : Versioned) (r : SendRecord) → Send kind b r → send_of kind b ≡ Some r
+pub send_again : (ffa : Ffa) (kind : Kind) (b : Versioned) (r : SendRecord) → Send ffa kind b r → send_of ffa kind b ≡ Some r
 unfolding send_of
-send_again kind b r h =
-    counted_again _ kind b (and_from _ _ (and_from _ _ (header_again b h.header) (header_test kind b r h)) (composite_again b h.composite)) (body_test kind b r h)
-    ∙ ap (λ (d : SendRecord). Some d) (send_is b r h.sender h.zero h.tag h.receivers h.ranges)
+send_again ffa kind b r h =
+    counted_again _ ffa kind b (and_from _ _ (and_from _ _ (header_again b h.header) (header_test ffa kind b r h)) (composite_again b h.composite)) (body_test ffa kind b r h)
+    ∙ ap (λ (d : SendRecord). Some d) (send_is ffa kind b r h.sender h.zero h.tag h.receivers h.ranges)
 
 -- a list of bytes fits at most one record
-pub one_send : (kind : Kind) (b : Versioned) (r s : SendRecord) → Send kind b r → Send kind b s → r ≡ s
-one_send kind b r s h k = same_Some r s (sym (send_again kind b r h) ∙ send_again kind b s k)
+pub one_send : (ffa : Ffa) (kind : Kind) (b : Versioned) (r s : SendRecord) → Send ffa kind b r → Send ffa kind b s → r ≡ s
+one_send ffa kind b r s h k = same_Some r s (sym (send_again ffa kind b r h) ∙ send_again ffa kind b s k)

@@ -13,7 +13,7 @@ use Rattle.ffa_model.specs.declared.transaction.Receiver.{Receiver}
 use Rattle.ffa_model.specs.declared.transaction.Range.{Range}
 use Rattle.std.specs.List.{list_all}
 use Rattle.ffa_model.specs.Lists.{listed}
-use Rattle.ffa_model.specs.DescriptorPlaces.{Versioned, sender_field, attributes_field, flags_field, handle_field, tag_field, receiver_count, array_place, endpoint_field, permissions_field, access_flags_field, composite_field, access_reserved_field, u32_at, u64_at}
+use Rattle.ffa_model.specs.DescriptorPlaces.{Versioned, sender_field, attributes_field, flags_field, handle_field, tag_field, receiver_count, array_place, endpoint_field, permissions_field, access_flags_field, composite_field, accesses_size, is_access_rest_zero, u32_at, u64_at}
 use Rattle.ffa_model.specs.FirstFlaws.{first_broken}
 use Rattle.ffa_model.specs.SendDescriptor.{is_grant, is_named, receiver_at, is_range, are_apart, range_at, range_end, holds_at_each}
 use Rattle.ffa_memdesc.specs.declared.header.Header.{Header}
@@ -31,43 +31,43 @@ header_in b =
       array = array_place b;
     }
 
-abbrev pub access_in : List ℕ → ℕ → Access
+abbrev pub access_in : Versioned → ℕ → Access
 access_in b at =
     record {
-      endpoint = record { 0 = endpoint_field b at };
-      permissions = permissions_field b at;
-      flags = access_flags_field b at;
-      composite = composite_field b at;
-      reserved = access_reserved_field b at;
+      endpoint = record { 0 = endpoint_field b.bytes at };
+      permissions = permissions_field b.bytes at;
+      flags = access_flags_field b.bytes at;
+      composite = composite_field b.bytes at;
+      is_rest_zero = is_access_rest_zero b.version b.bytes at;
     }
 
--- What follows the header is read by its places, whatever the version: the array's and the composite's.
+-- What follows the header is read by its places: the array's and the composite's.
 
 -- whether an access descriptor of a send by this sender stands at a place
-abbrev pub is_access_from : Kind → ℕ → ℕ → List ℕ → ℕ → Bool
+abbrev pub is_access_from : Kind → ℕ → ℕ → Versioned → ℕ → Bool
 is_access_from kind sender composite b at =
-    is_grant kind (permissions_field b at)
-    && (access_flags_field b at == 0)
-    && (composite_field b at == composite)
-    && (access_reserved_field b at == 0)
-    && not (endpoint_field b at == sender)
+    is_grant kind (permissions_field b.bytes at)
+    && (access_flags_field b.bytes at == 0)
+    && (composite_field b.bytes at == composite)
+    && is_access_rest_zero b.version b.bytes at
+    && not (endpoint_field b.bytes at == sender)
 
 -- the receiver at a place, where its access descriptor is one and no earlier one names it
-unfoldable pub receiver_of : Kind → ℕ → ℕ → List ℕ → ℕ → List Receiver → Option Receiver
+unfoldable pub receiver_of : Kind → ℕ → ℕ → Versioned → ℕ → List Receiver → Option Receiver
 receiver_of kind sender composite b at earlier =
-    if is_access_from kind sender composite b at && not (is_named (endpoint_field b at) earlier)
-    then Some (receiver_at b at) else None
+    if is_access_from kind sender composite b at && not (is_named (endpoint_field b.bytes at) earlier)
+    then Some (receiver_at b.bytes at) else None
 
 -- receiver i of an array, and whether it is one beside the earlier ones
-abbrev pub receiver_after : List ℕ → ℕ → ℕ → Receiver
-receiver_after b array i = receiver_at b (array + 16 * i)
+abbrev pub receiver_after : Versioned → ℕ → ℕ → Receiver
+receiver_after b array i = receiver_at b.bytes (array + accesses_size b.version i)
 
-abbrev pub is_receiver_after : Kind → ℕ → ℕ → List ℕ → ℕ → ℕ → Bool
+abbrev pub is_receiver_after : Kind → ℕ → ℕ → Versioned → ℕ → ℕ → Bool
 is_receiver_after kind sender composite b array i =
-    is_access_from kind sender composite b (array + 16 * i)
-    && not (is_named (endpoint_field b (array + 16 * i)) (listed i (receiver_after b array)))
+    is_access_from kind sender composite b (array + accesses_size b.version i)
+    && not (is_named (endpoint_field b.bytes (array + accesses_size b.version i)) (listed i (receiver_after b array)))
 
-unfoldable pub receivers_of : Kind → ℕ → ℕ → List ℕ → ℕ → ℕ → Option (List Receiver)
+unfoldable pub receivers_of : Kind → ℕ → ℕ → Versioned → ℕ → ℕ → Option (List Receiver)
 receivers_of kind sender composite b array n =
     if holds_at_each (is_receiver_after kind sender composite b array) n
     then Some (listed n (receiver_after b array)) else None
@@ -104,20 +104,20 @@ ranges_of b composite n =
 -- WHICH CONDITION IS BROKEN FIRST, by the same places
 
 -- of the access descriptor at a place, which is number i
-unfoldable pub access_flaw_at : Kind → ℕ → ℕ → List ℕ → ℕ → List Receiver → ℕ → Option Flaw
+unfoldable pub access_flaw_at : Kind → ℕ → ℕ → Versioned → ℕ → List Receiver → ℕ → Option Flaw
 access_flaw_at kind sender composite b at earlier i =
-    first_broken ((is_grant kind (permissions_field b at), FlawOfAccess i Permissions)
-    ∷ (access_flags_field b at == 0, FlawOfAccess i Flags)
-    ∷ (composite_field b at == composite, FlawOfAccess i OtherComposite)
-    ∷ (access_reserved_field b at == 0, FlawOfAccess i AccessReserved)
-    ∷ (not (endpoint_field b at == sender), FlawOfAccess i ReceiverIsSender)
-    ∷ (not (is_named (endpoint_field b at) earlier), FlawOfAccess i ReceiverTwice)
+    first_broken ((is_grant kind (permissions_field b.bytes at), FlawOfAccess i Permissions)
+    ∷ (access_flags_field b.bytes at == 0, FlawOfAccess i Flags)
+    ∷ (composite_field b.bytes at == composite, FlawOfAccess i OtherComposite)
+    ∷ (is_access_rest_zero b.version b.bytes at, FlawOfAccess i AccessReserved)
+    ∷ (not (endpoint_field b.bytes at == sender), FlawOfAccess i ReceiverIsSender)
+    ∷ (not (is_named (endpoint_field b.bytes at) earlier), FlawOfAccess i ReceiverTwice)
     ∷ [])
 
 -- of access descriptor i of an array
-abbrev pub access_flaw_after : Kind → ℕ → ℕ → List ℕ → ℕ → ℕ → Option Flaw
+abbrev pub access_flaw_after : Kind → ℕ → ℕ → Versioned → ℕ → ℕ → Option Flaw
 access_flaw_after kind sender composite b array i =
-    access_flaw_at kind sender composite b (array + 16 * i) (listed i (receiver_after b array)) i
+    access_flaw_at kind sender composite b (array + accesses_size b.version i) (listed i (receiver_after b array)) i
 
 -- of a composite, without its ranges and the sum of these
 unfoldable pub composite_flaw_at : List ℕ → ℕ → ℕ → Option Flaw

@@ -2,11 +2,12 @@
 //! Access descriptors.
 
 ghost use Rattle.std.specs.Prelude.{◌≡◌, ◌+◌, ◌≤◌, length};
+ghost use Rattle.ffa_model.specs.DescriptorPlaces.{accesses_size, in_version, is_access_rest_zero};
 ghost use Rattle.ffa_model.specs.Bits.{bits};
 ghost use Rattle.ffa_memdesc.specs.Reading.{access_in};
 
 use crate::bytes::{Bytes, read_u16, read_u32, read_u64};
-use ffa_model::EndpointId;
+use ffa_model::{EndpointId, Version};
 
 /// An access descriptor as it stands in the bytes.
 #[derive(Clone, Copy, PartialEq, Eq)]
@@ -16,7 +17,8 @@ pub struct Access {
     pub flags: u8,
     /// The place of the composite.
     pub composite: u32,
-    pub reserved: u64,
+    /// Whether the bytes behind that are 0.
+    pub is_rest_zero: bool,
 }
 
 impl Access {
@@ -35,10 +37,27 @@ impl Access {
     }
 }
 
+/// Whether the bytes of the access descriptor at this place that say nothing are 0.
+fn is_rest_zero<B: Bytes>(bytes: &B, version: Version, at: usize) -> bool
+    requires { at + accesses_size version 1 ≤ length (B.bytes bytes.now) }
+    ensures { result ≡ is_access_rest_zero version (B.bytes bytes.now) at }
+{
+    // Proof step: the number of bytes fits a usize.
+    let _ = bytes.len();
+    match version {
+        Version::Compact | Version::V1_1 => read_u64(bytes, at + 8) == 0,
+        Version::V1_2 => {
+            read_u64(bytes, at + 8) == 0
+                && read_u64(bytes, at + 16) == 0
+                && read_u64(bytes, at + 24) == 0
+        }
+    }
+}
+
 /// The access descriptor at this place.
-pub fn read_access<B: Bytes>(bytes: &B, at: usize) -> Access
-    requires { at + 16 ≤ length (B.bytes bytes.now) }
-    ensures { result ≡ access_in (B.bytes bytes.now) at }
+pub fn read_access<B: Bytes>(bytes: &B, version: Version, at: usize) -> Access
+    requires { at + accesses_size version 1 ≤ length (B.bytes bytes.now) }
+    ensures { result ≡ access_in (in_version version (B.bytes bytes.now)) at }
 {
     // Proof step: the number of bytes fits a usize.
     let _ = bytes.len();
@@ -47,6 +66,6 @@ pub fn read_access<B: Bytes>(bytes: &B, at: usize) -> Access
         permissions: bytes.at(at + 2),
         flags: bytes.at(at + 3),
         composite: read_u32(bytes, at + 4),
-        reserved: read_u64(bytes, at + 8),
+        is_rest_zero: is_rest_zero(bytes, version, at),
     }
 }

@@ -4,7 +4,7 @@
 ghost use Rattle.std.specs.Prelude.{◌≡◌, ◌+◌, ◌*◌, ◌≤◌, length, IfOk, OnOk};
 ghost use Rattle.std.specs.Option.{option_map};
 ghost use Rattle.std.specs.Result.{result_err};
-ghost use Rattle.ffa_model.specs.DescriptorPlaces.{told_access_size, array_in, header_size, in_version, is_rest_zero, IsHeader};
+ghost use Rattle.ffa_model.specs.DescriptorPlaces.{accesses_size, told_access_size, array_in, header_size, in_version, is_rest_zero, IsHeader};
 ghost use Rattle.ffa_model.specs.FirstFlaws.{header_flaw};
 ghost use Rattle.ffa_model.specs.declared.flaw.Flaw.TheVariants.{Header as FlawOfHeader};
 ghost use Rattle.ffa_memdesc.specs.Reading.{header_in};
@@ -12,8 +12,8 @@ ghost use Rattle.ffa_memdesc.specs.Reading.{header_in};
 use crate::bytes::{Bytes, read_u16, read_u32, read_u64};
 use ffa_model::{EndpointId, HeaderFlaw, Version};
 
-/// How many bytes an access descriptor has, and how many a range.
-pub const ENTRY_SIZE: u32 = 16;
+/// How many bytes a range has.
+pub const RANGE_SIZE: u32 = 16;
 
 /// Normal memory, write-back, inner shareable.
 pub const NORMAL_MEMORY: u16 = 0x2f;
@@ -43,7 +43,19 @@ pub fn header_size(version: Version) -> u32
 {
     match version {
         Version::Compact => 32,
-        Version::V1_1 => 48,
+        Version::V1_1 | Version::V1_2 => 48,
+    }
+}
+
+/// How many bytes so many access descriptors have.
+pub fn accesses_size(version: Version, count: u32) -> u64
+    ensures value { result ≡ accesses_size version count }
+    ensures least { 16 * count ≤ result }
+    ensures most { result ≤ 32 * count }
+{
+    match version {
+        Version::Compact | Version::V1_1 => 16 * u64::from(count),
+        Version::V1_2 => 32 * u64::from(count),
     }
 }
 
@@ -53,7 +65,7 @@ pub fn told_access_size(version: Version) -> u32
 {
     match version {
         Version::Compact => 0,
-        Version::V1_1 => ENTRY_SIZE,
+        Version::V1_1 | Version::V1_2 => accesses_size(version, 1) as u32,
     }
 }
 
@@ -64,7 +76,7 @@ fn read_array<B: Bytes>(bytes: &B, version: Version) -> u32
 {
     match version {
         Version::Compact => 32,
-        Version::V1_1 => read_u32(bytes, 32),
+        Version::V1_1 | Version::V1_2 => read_u32(bytes, 32),
     }
 }
 
@@ -75,7 +87,7 @@ fn is_rest_zero<B: Bytes>(bytes: &B, version: Version) -> bool
 {
     match version {
         Version::Compact => true,
-        Version::V1_1 => read_u32(bytes, 36) == 0 && read_u64(bytes, 40) == 0,
+        Version::V1_1 | Version::V1_2 => read_u32(bytes, 36) == 0 && read_u64(bytes, 40) == 0,
     }
 }
 
@@ -85,7 +97,7 @@ fn is_rest_zero<B: Bytes>(bytes: &B, version: Version) -> bool
 fn read_in<B: Bytes>(bytes: &B, version: Version) -> Result<Header, HeaderFlaw>
     ensures whole { OnOk result (IsHeader (in_version version (B.bytes bytes.now))) }
     ensures found { IfOk result (λ h. h ≡ header_in (in_version version (B.bytes bytes.now))) }
-    ensures inside { IfOk result (λ h. h.array + 16 * h.count ≤ length (B.bytes bytes.now)) }
+    ensures inside { IfOk result (λ h. h.array + accesses_size version h.count ≤ length (B.bytes bytes.now)) }
     ensures first { let broken = option_map (λ flaw. FlawOfHeader flaw) (result_err result) in
         broken ≡ header_flaw (in_version version (B.bytes bytes.now)) }
 {
@@ -105,7 +117,7 @@ fn read_in<B: Bytes>(bytes: &B, version: Version) -> Result<Header, HeaderFlaw>
         return Err(HeaderFlaw::ArrayInHeader);
     }
     let count = read_u32(bytes, 28);
-    if array as u64 + ENTRY_SIZE as u64 * count as u64 > len as u64 {
+    if u64::from(array) + accesses_size(version, count) > len as u64 {
         return Err(HeaderFlaw::ArrayOutside);
     }
     if !is_rest_zero(bytes, version) {
@@ -126,12 +138,13 @@ fn read_in<B: Bytes>(bytes: &B, version: Version) -> Result<Header, HeaderFlaw>
 pub fn read_header<B: Bytes>(bytes: &B, version: Version) -> Result<Header, HeaderFlaw>
     ensures whole { OnOk result (IsHeader (in_version version (B.bytes bytes.now))) }
     ensures found { IfOk result (λ h. h ≡ header_in (in_version version (B.bytes bytes.now))) }
-    ensures inside { IfOk result (λ h. h.array + 16 * h.count ≤ length (B.bytes bytes.now)) }
+    ensures inside { IfOk result (λ h. h.array + accesses_size version h.count ≤ length (B.bytes bytes.now)) }
     ensures first { let broken = option_map (λ flaw. FlawOfHeader flaw) (result_err result) in
         broken ≡ header_flaw (in_version version (B.bytes bytes.now)) }
 {
     match version {
         Version::Compact => read_in(bytes, Version::Compact),
         Version::V1_1 => read_in(bytes, Version::V1_1),
+        Version::V1_2 => read_in(bytes, Version::V1_2),
     }
 }

@@ -11,23 +11,24 @@ ghost use Rattle.ffa_model.specs.RetrieveDescriptor.{Retrieve, retrieve_of};
 ghost use Rattle.ffa_model.specs.RelinquishDescriptor.{Relinquish, relinquish_of};
 ghost use Rattle.ffa_model.specs.declared.descriptor.RetrieveDesc.{RetrieveDesc};
 ghost use Rattle.ffa_model.specs.declared.descriptor.RelinquishDesc.{RelinquishDesc};
+ghost use Rattle.ffa_model.specs.declared.manifest.Ffa.{Ffa};
 ghost use Rattle.ffa_model.specs.declared.rights.Kind.{Kind};
 
 /// A list of bytes fits at most one record of each relation, and the functions that compute a record give
 /// that one. Where bytes break a condition, they fit none.
 pub fn one_record()
-    ensures one_send { (kind : Kind) (b : Versioned) (r s : SendRecord) → Send kind b r → Send kind b s → r ≡ s }
+    ensures one_send { (ffa : Ffa) (kind : Kind) (b : Versioned) (r s : SendRecord) → Send ffa kind b r → Send ffa kind b s → r ≡ s }
     ensures one_retrieve { (e : ℕ) (b : Versioned) (r s : RetrieveDesc) → Retrieve e b r → Retrieve e b s → r ≡ s }
     ensures one_relinquish { (b : List ℕ) (r s : RelinquishDesc) → Relinquish b r → Relinquish b s → r ≡ s }
 
-    ensures broken_send { (kind : Kind) (b : Versioned) (flaw : Flaw) (r : SendRecord)
-        → SendBreaks kind b flaw → Send kind b r → ⊥ }
+    ensures broken_send { (ffa : Ffa) (kind : Kind) (b : Versioned) (flaw : Flaw) (r : SendRecord)
+        → SendBreaks ffa kind b flaw → Send ffa kind b r → ⊥ }
     ensures broken_retrieve { (e : ℕ) (b : Versioned) (flaw : Flaw) (r : RetrieveDesc)
         → RetrieveBreaks e b flaw → Retrieve e b r → ⊥ }
     ensures broken_relinquish { (b : List ℕ) (flaw : Flaw) (r : RelinquishDesc)
         → RelinquishBreaks b flaw → Relinquish b r → ⊥ }
 
-    ensures send { (kind : Kind) (b : Versioned) (r : SendRecord) → Send kind b r ↔ (send_of kind b ≡ Some r) }
+    ensures send { (ffa : Ffa) (kind : Kind) (b : Versioned) (r : SendRecord) → Send ffa kind b r ↔ (send_of ffa kind b ≡ Some r) }
     ensures retrieve { (e : ℕ) (b : Versioned) (r : RetrieveDesc) → Retrieve e b r ↔ (retrieve_of e b ≡ Some r) }
     ensures relinquish { (b : List ℕ) (r : RelinquishDesc) → Relinquish b r ↔ (relinquish_of b ≡ Some r) }
 {}

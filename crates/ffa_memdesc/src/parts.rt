@@ -4,13 +4,13 @@
 ghost use Rattle.std.specs.Prelude.{◌+◌, ◌*◌, ◌^◌, ◌<◌, ◌≤◌, List, ℕ, length, ◌++◌};
 ghost use Rattle.std.specs.List.{flat_map};
 ghost use Rattle.ffa_model.specs.declared.limits.TheConstants.{MOST_RANGES};
-ghost use Rattle.ffa_model.specs.DescriptorPlaces.{header_size};
+ghost use Rattle.ffa_model.specs.DescriptorPlaces.{accesses_size, header_size};
 ghost use Rattle.ffa_model.specs.SendDescriptor.{page_total};
-ghost use Rattle.ffa_model.specs.ResponseBytes.{rest_bytes, composite_bytes, range_bytes};
+ghost use Rattle.ffa_model.specs.ResponseBytes.{access_rest_bytes, rest_bytes, composite_bytes, range_bytes};
 ghost use Rattle.ffa_memdesc.specs.Writing.{Wrote};
 
-use crate::header::ENTRY_SIZE;
-pub use crate::header::{header_size, told_access_size};
+use crate::header::RANGE_SIZE;
+pub use crate::header::{accesses_size, header_size, told_access_size};
 use crate::put::{put_u32, put_u64};
 pub use crate::ranges::{is_apart_from, page_total, range_end};
 pub use crate::receivers::is_named;
@@ -25,10 +25,26 @@ pub fn write_rest(out: &mut [u8], version: Version)
 {
     match version {
         Version::Compact => {}
-        Version::V1_1 => {
+        Version::V1_1 | Version::V1_2 => {
             put_u32(out, 32, 48);
             put_u32(out, 36, 0);
             put_u64(out, 40, 0);
+        }
+    }
+}
+
+/// Writes the end of the access descriptor at a place, behind its first 8 bytes: zeros.
+pub fn write_access_rest(out: &mut [u8], version: Version, at: usize)
+    requires { at + accesses_size version 1 ≤ length out.old }
+    ensures { (old front : List ℕ) → Wrote old front (at + 8) out.old
+        → Wrote old (front ++ access_rest_bytes version) (at + accesses_size version 1) out.new }
+{
+    put_u64(out, at + 8, 0);
+    match version {
+        Version::Compact | Version::V1_1 => {}
+        Version::V1_2 => {
+            put_u64(out, at + 16, 0);
+            put_u64(out, at + 24, 0);
         }
     }
 }
@@ -63,6 +79,6 @@ pub fn write_ranges(out: &mut [u8], at: usize, ranges: &[Range])
         → Wrote old (front ++ flat_map range_bytes ranges.now) (at + 16 * length ranges.now) out.new }
 {
     for i in 0..ranges.len() {
-        write_range(out, at + ENTRY_SIZE as usize * i, &ranges[i]);
+        write_range(out, at + RANGE_SIZE as usize * i, &ranges[i]);
     }
 }

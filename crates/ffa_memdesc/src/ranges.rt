@@ -6,28 +6,30 @@ ghost use Rattle.std.specs.List.{list_all};
 ghost use Rattle.std.specs.Option.{option_map};
 ghost use Rattle.std.specs.Result.{result_err};
 ghost use Rattle.ffa_model.specs.declared.limits.TheConstants.{MOST_RANGES};
+ghost use Rattle.ffa_model.specs.DescriptorPlaces.{accesses_size};
 ghost use Rattle.ffa_model.specs.FirstFlaws.{first_of};
 ghost use Rattle.ffa_model.specs.declared.flaw.Flaw.TheVariants.{Composite as FlawOfComposite, Range as FlawOfRange};
 ghost use Rattle.ffa_model.specs.SendDescriptor.{range_end, are_apart, page_total};
 ghost use Rattle.ffa_memdesc.specs.Reading.{range_count_of, range_of, ranges_of, composite_flaw_at, range_flaw_at, range_flaw_after};
 
 use crate::bytes::{Bytes, read_u32, read_u64};
-use crate::header::{ENTRY_SIZE, Header};
+use crate::header::{Header, RANGE_SIZE, accesses_size};
 use arrayvec::ArrayVec;
-use ffa_model::{CompositeFlaw, Flaw, MOST_RANGES, Range, RangeFlaw};
+use ffa_model::{CompositeFlaw, Flaw, MOST_RANGES, Range, RangeFlaw, Version};
 
 /// How many ranges the composite has, where it stands behind the access descriptors and inside the bytes.
 #[tactic(auto, unfolding(crate::specs::Reading::range_count_of, crate::specs::Reading::composite_flaw_at))]
 pub fn read_range_count<B: Bytes>(
     bytes: &B,
+    version: Version,
     header: &Header,
     composite: u32,
 ) -> Result<u32, CompositeFlaw>
-    ensures found { let end = header.now.array + 16 * header.now.count in
+    ensures found { let end = header.now.array + accesses_size version header.now.count in
         IfOk result (λ n. Some n ≡ range_count_of (B.bytes bytes.now) end composite) }
     ensures few { IfOk result (λ n. n ≤ MOST_RANGES) }
     ensures inside { IfOk result (λ n. composite + 16 + 16 * n ≤ length (B.bytes bytes.now)) }
-    ensures first { let end = header.now.array + 16 * header.now.count in
+    ensures first { let end = header.now.array + accesses_size version header.now.count in
         let broken = option_map (λ flaw. FlawOfComposite flaw) (result_err result) in
         broken ≡ composite_flaw_at (B.bytes bytes.now) end composite }
 {
@@ -39,7 +41,7 @@ pub fn read_range_count<B: Bytes>(
     if composite % 16 != 0 {
         return Err(CompositeFlaw::Unaligned);
     }
-    if header.array as u64 + ENTRY_SIZE as u64 * header.count as u64 > composite as u64 {
+    if u64::from(header.array) + accesses_size(version, header.count) > u64::from(composite) {
         return Err(CompositeFlaw::InArray);
     }
     let at = composite as usize;
@@ -53,7 +55,7 @@ pub fn read_range_count<B: Bytes>(
     if read_u64(bytes, at + 8) != 0 {
         return Err(CompositeFlaw::Reserved);
     }
-    if first + ENTRY_SIZE as u64 * count as u64 > len {
+    if first + RANGE_SIZE as u64 * count as u64 > len {
         return Err(CompositeFlaw::RangesOutside);
     }
     Ok(count)
@@ -126,7 +128,7 @@ pub fn read_ranges<B: Bytes>(
     ensures first { result_err result ≡ first_of count (range_flaw_after (B.bytes bytes.now) composite) }
 {
     for i in 0..count {
-        let at = composite as usize + 16 + ENTRY_SIZE as usize * i as usize;
+        let at = composite as usize + 16 + RANGE_SIZE as usize * i as usize;
         match read_range(bytes, at, ranges) {
             Ok(range) => ranges.push(range),
             Err(flaw) => return Err(Flaw::Range(i, flaw)),

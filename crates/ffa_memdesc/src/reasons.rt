@@ -3,11 +3,11 @@
 //! serves diagnostics alone. No descriptor is read by it, so who audits the core can skip it.
 
 ghost use Rattle.std.specs.Prelude.{◌≡◌, ◌+◌, ◌*◌, ◌^◌, ◌≤◌, length};
-ghost use Rattle.ffa_model.specs.DescriptorPlaces.{in_version};
-ghost use Rattle.ffa_model.specs.FlawPlaces.{told_place, told_array, told_composite, field, array_field, header_flaw_place, send_flaw_place, access_flaw_place, composite_flaw_place, range_flaw_place, retrieve_flaw_place, relinquish_flaw_place, flaw_place, number_of_size, field_value};
+ghost use Rattle.ffa_model.specs.DescriptorPlaces.{accesses_size, in_version};
+ghost use Rattle.ffa_model.specs.FlawPlaces.{told_place, told_array, told_composite, field, array_field, access_rest_field, header_flaw_place, send_flaw_place, access_flaw_place, composite_flaw_place, range_flaw_place, retrieve_flaw_place, relinquish_flaw_place, flaw_place, number_of_size, field_value};
 
 use crate::bytes::{Bytes, read_u16, read_u32, read_u64};
-use crate::header::{ENTRY_SIZE, header_size};
+use crate::header::{RANGE_SIZE, accesses_size, header_size};
 use ffa_model::{
     AccessFlaw, CompositeFlaw, FieldPlace, Flaw, HeaderFlaw, RangeFlaw, RelinquishFlaw,
     RetrieveFlaw, SendFlaw, Version,
@@ -37,7 +37,7 @@ fn told_array<B: Bytes>(bytes: &B, version: Version) -> u32
 {
     match version {
         Version::Compact => 32,
-        Version::V1_1 => told_place(bytes, 32),
+        Version::V1_1 | Version::V1_2 => told_place(bytes, 32),
     }
 }
 
@@ -48,13 +48,14 @@ fn told_composite<B: Bytes>(bytes: &B, version: Version) -> u32
     told_place(bytes, told_array(bytes, version) as u64 + 4)
 }
 
-/// How many access descriptors there are, and where they begin if that is told.
+/// How many access descriptors there are, where they begin if that is told, and which size each has in FF-A 1.2.
 fn array_field(version: Version) -> FieldPlace
     ensures { result ≡ array_field version }
 {
     match version {
         Version::Compact => field(28, 4),
         Version::V1_1 => field(28, 8),
+        Version::V1_2 => field(24, 12),
     }
 }
 
@@ -82,16 +83,27 @@ fn send_flaw_place(flaw: SendFlaw) -> FieldPlace
     }
 }
 
-/// By the access descriptor's place.
-fn access_flaw_place(at: u64, flaw: AccessFlaw) -> FieldPlace
+/// The end of the access descriptor at a place, which says nothing.
+fn access_rest_field(version: Version, at: u64) -> FieldPlace
     requires { at ≤ 2 ^ 40 }
-    ensures { result ≡ access_flaw_place at flaw }
+    ensures { result ≡ access_rest_field version at }
+{
+    match version {
+        Version::Compact | Version::V1_1 => field(at + 8, 8),
+        Version::V1_2 => field(at + 8, 24),
+    }
+}
+
+/// By the access descriptor's place.
+fn access_flaw_place(version: Version, at: u64, flaw: AccessFlaw) -> FieldPlace
+    requires { at ≤ 2 ^ 40 }
+    ensures { result ≡ access_flaw_place version at flaw }
 {
     match flaw {
         AccessFlaw::Permissions => field(at + 2, 1),
         AccessFlaw::Flags => field(at + 3, 1),
         AccessFlaw::OtherComposite => field(at + 4, 4),
-        AccessFlaw::Reserved => field(at + 8, 8),
+        AccessFlaw::Reserved => access_rest_field(version, at),
         AccessFlaw::ReceiverIsSender | AccessFlaw::ReceiverTwice => field(at, 2),
     }
 }
@@ -128,9 +140,9 @@ fn range_flaw_place(at: u64, flaw: RangeFlaw) -> FieldPlace
 }
 
 /// By the place of the one access descriptor.
-fn retrieve_flaw_place(array: u64, flaw: RetrieveFlaw) -> FieldPlace
+fn retrieve_flaw_place(version: Version, array: u64, flaw: RetrieveFlaw) -> FieldPlace
     requires { array ≤ 2 ^ 40 }
-    ensures { result ≡ retrieve_flaw_place array flaw }
+    ensures { result ≡ retrieve_flaw_place version array flaw }
 {
     match flaw {
         RetrieveFlaw::Attributes => field(2, 2),
@@ -142,7 +154,7 @@ fn retrieve_flaw_place(array: u64, flaw: RetrieveFlaw) -> FieldPlace
         | RetrieveFlaw::PermissionsReserved => field(array + 2, 1),
         RetrieveFlaw::AccessFlags => field(array + 3, 1),
         RetrieveFlaw::CompositeTold => field(array + 4, 4),
-        RetrieveFlaw::AccessReserved => field(array + 8, 8),
+        RetrieveFlaw::AccessReserved => access_rest_field(version, array),
     }
 }
 
@@ -156,13 +168,22 @@ fn relinquish_flaw_place(flaw: RelinquishFlaw) -> FieldPlace
     }
 }
 
-/// The place of an entry with this index, of those that begin at a place.
-fn entry_place(first: u64, index: u32) -> u64
-    requires { first ≤ 2 ^ 33 }
-    ensures value { result ≡ first + 16 * index }
+/// The place of the access descriptor with this index, of those that begin at a place.
+fn access_place(version: Version, array: u64, index: u32) -> u64
+    requires { array ≤ 2 ^ 33 }
+    ensures value { result ≡ array + accesses_size version index }
     ensures few { result ≤ 2 ^ 40 }
 {
-    first + ENTRY_SIZE as u64 * index as u64
+    array + accesses_size(version, index)
+}
+
+/// The place of the range with this index, of those of the composite at a place.
+fn range_place(composite: u64, index: u32) -> u64
+    requires { composite ≤ 2 ^ 33 }
+    ensures value { result ≡ composite + 16 + 16 * index }
+    ensures few { result ≤ 2 ^ 40 }
+{
+    composite + 16 + u64::from(RANGE_SIZE) * u64::from(index)
 }
 
 /// The field of which a condition speaks that these bytes break, in a descriptor of an endpoint of this
@@ -175,10 +196,12 @@ pub fn flaw_place<B: Bytes>(bytes: &B, version: Version, flaw: Flaw) -> FieldPla
     match flaw {
         Flaw::Header(flaw) => header_flaw_place(version, flaw),
         Flaw::Send(flaw) => send_flaw_place(flaw),
-        Flaw::Access(i, flaw) => access_flaw_place(entry_place(array, i), flaw),
+        Flaw::Access(i, flaw) => {
+            access_flaw_place(version, access_place(version, array, i), flaw)
+        }
         Flaw::Composite(flaw) => composite_flaw_place(array, composite, flaw),
-        Flaw::Range(i, flaw) => range_flaw_place(entry_place(composite + 16, i), flaw),
-        Flaw::Retrieve(flaw) => retrieve_flaw_place(array, flaw),
+        Flaw::Range(i, flaw) => range_flaw_place(range_place(composite, i), flaw),
+        Flaw::Retrieve(flaw) => retrieve_flaw_place(version, array, flaw),
         Flaw::Relinquish(flaw) => relinquish_flaw_place(flaw),
     }
 }

@@ -5,7 +5,7 @@ ghost use Rattle.std.specs.Prelude.{◌≡◌, ℕ, ◌+◌, ◌*◌, ◌≤◌,
 ghost use Rattle.std.specs.Option.{option_map};
 ghost use Rattle.std.specs.Result.{result_err};
 ghost use Rattle.ffa_model.specs.declared.limits.TheConstants.{MOST_RECEIVERS};
-ghost use Rattle.ffa_model.specs.DescriptorPlaces.{data_of};
+ghost use Rattle.ffa_model.specs.DescriptorPlaces.{accesses_size, data_of, in_version};
 ghost use Rattle.ffa_model.specs.FirstFlaws.{first_of};
 ghost use Rattle.ffa_model.specs.SendDescriptor.{is_grant, is_named};
 ghost use Rattle.ffa_model.specs.declared.flaw.Flaw.TheVariants.{Access as FlawOfAccess};
@@ -13,9 +13,9 @@ ghost use Rattle.ffa_memdesc.specs.Reading.{receiver_of, receivers_of, access_fl
 
 use crate::access::read_access;
 use crate::bytes::Bytes;
-use crate::header::{ENTRY_SIZE, Header};
+use crate::header::{Header, accesses_size};
 use arrayvec::ArrayVec;
-use ffa_model::{AccessFlaw, Data, EndpointId, Flaw, Kind, MOST_RECEIVERS, Receiver};
+use ffa_model::{AccessFlaw, Data, EndpointId, Flaw, Kind, MOST_RECEIVERS, Receiver, Version};
 
 /// Whether a send of this kind may grant these permissions.
 fn is_grant(kind: Kind, permissions: u8) -> bool
@@ -49,18 +49,20 @@ pub fn is_named(endpoint: EndpointId, receivers: &[Receiver]) -> bool
 #[tactic(auto, unfolding(crate::specs::Reading::receiver_of, crate::specs::Reading::access_flaw_at))]
 fn read_receiver<B: Bytes>(
     bytes: &B,
+    version: Version,
     kind: Kind,
     sender: EndpointId,
     composite: u32,
     at: usize,
     earlier: &[Receiver],
 ) -> Result<Receiver, AccessFlaw>
-    requires { at + 16 ≤ length (B.bytes bytes.now) }
-    ensures found { IfOk result (λ r. Some r ≡ receiver_of kind sender.0 composite (B.bytes bytes.now) at earlier.now) }
+    requires { at + accesses_size version 1 ≤ length (B.bytes bytes.now) }
+    ensures found { let b = in_version version (B.bytes bytes.now) in
+        IfOk result (λ r. Some r ≡ receiver_of kind sender.0 composite b at earlier.now) }
     ensures first { (i : ℕ) → option_map (λ flaw. FlawOfAccess i flaw) (result_err result)
-        ≡ access_flaw_at kind sender.0 composite (B.bytes bytes.now) at earlier.now i }
+        ≡ access_flaw_at kind sender.0 composite (in_version version (B.bytes bytes.now)) at earlier.now i }
 {
-    let access = read_access(bytes, at);
+    let access = read_access(bytes, version, at);
     if !is_grant(kind, access.permissions) {
         return Err(AccessFlaw::Permissions);
     }
@@ -70,7 +72,7 @@ fn read_receiver<B: Bytes>(
     if access.composite != composite {
         return Err(AccessFlaw::OtherComposite);
     }
-    if access.reserved != 0 {
+    if !access.is_rest_zero {
         return Err(AccessFlaw::Reserved);
     }
     if access.endpoint.0 == sender.0 {
@@ -88,22 +90,32 @@ fn read_receiver<B: Bytes>(
 /// The receivers that a send names, where all fit.
 pub fn read_receivers<B: Bytes>(
     bytes: &B,
+    version: Version,
     kind: Kind,
     header: &Header,
     composite: u32,
 ) -> Result<ArrayVec<Receiver, MOST_RECEIVERS>, Flaw>
     requires few { header.now.count ≤ MOST_RECEIVERS }
-    requires inside { header.now.array + 16 * header.now.count ≤ length (B.bytes bytes.now) }
+    requires inside { header.now.array + accesses_size version header.now.count ≤ length (B.bytes bytes.now) }
     ensures found { let sender = header.now.sender.0 in let array = header.now.array in let count = header.now.count in
-        IfOk result (λ v. Some v.items ≡ receivers_of kind sender composite (B.bytes bytes.now) array count) }
+        let b = in_version version (B.bytes bytes.now) in
+        IfOk result (λ v. Some v.items ≡ receivers_of kind sender composite b array count) }
     ensures first { let sender = header.now.sender.0 in let array = header.now.array in
-        let broken = access_flaw_after kind sender composite (B.bytes bytes.now) array in
+        let broken = access_flaw_after kind sender composite (in_version version (B.bytes bytes.now)) array in
         result_err result ≡ first_of header.now.count broken }
 {
     let mut receivers = ArrayVec::new();
     for i in 0..header.count {
-        let at = header.array as usize + ENTRY_SIZE as usize * i as usize;
-        match read_receiver(bytes, kind, header.sender, composite, at, &receivers) {
+        let at = header.array as usize + accesses_size(version, i) as usize;
+        match read_receiver(
+            bytes,
+            version,
+            kind,
+            header.sender,
+            composite,
+            at,
+            &receivers,
+        ) {
             Ok(receiver) => receivers.push(receiver),
             Err(flaw) => return Err(Flaw::Access(i, flaw)),
         }

@@ -2,24 +2,31 @@
 //! The answer to a retrieve, written where its caller reads it.
 
 ghost use Rattle.std.specs.Prelude.{◌≡◌, ◌+◌, ◌^◌, ◌<◌, ◌≤◌, List, ℕ, length, ◌++◌, drop};
-ghost use Rattle.ffa_model.specs.DescriptorPlaces.{header_size};
+ghost use Rattle.ffa_model.specs.DescriptorPlaces.{accesses_size, header_size};
 ghost use Rattle.ffa_model.specs.SendDescriptor.{page_total};
 ghost use Rattle.ffa_model.specs.ResponseBytes.{attributes_told, flags_of, permissions_of, header_bytes, access_bytes, response_record, response_bytes, response_size};
 ghost use Rattle.ffa_memdesc.specs.Writing.{Wrote};
 
-use crate::header::{ENTRY_SIZE, NON_SECURE, NORMAL_MEMORY, header_size, told_access_size};
-use crate::parts::{write_composite, write_ranges, write_rest};
+use crate::header::{
+    NON_SECURE, NORMAL_MEMORY, RANGE_SIZE, accesses_size, header_size, told_access_size,
+};
+use crate::parts::{write_access_rest, write_composite, write_ranges, write_rest};
 use crate::put::{put_u8, put_u16, put_u32, put_u64};
 use ffa_model::{Data, Kind, Response, Rights, Version};
 
-/// Normal memory, and in bit 6 whether it is non-secure.
-fn attributes_told(normal: bool) -> u16
-    ensures { result ≡ attributes_told normal }
+/// Normal memory, and in bit 6 whether it is non-secure, which the compact form doesn't tell.
+fn attributes_told(version: Version, normal: bool) -> u16
+    ensures { result ≡ attributes_told version normal }
 {
-    if normal {
-        NORMAL_MEMORY + NON_SECURE
-    } else {
-        NORMAL_MEMORY
+    match version {
+        Version::Compact => NORMAL_MEMORY,
+        Version::V1_1 | Version::V1_2 => {
+            if normal {
+                NORMAL_MEMORY + NON_SECURE
+            } else {
+                NORMAL_MEMORY
+            }
+        }
     }
 }
 
@@ -52,7 +59,7 @@ fn write_header(out: &mut [u8], version: Version, response: &Response)
     ensures { Wrote out.old (header_bytes version (response_record response.now)) (header_size version) out.new }
 {
     put_u16(out, 0, response.sender.0);
-    put_u16(out, 2, attributes_told(response.normal));
+    put_u16(out, 2, attributes_told(version, response.normal));
     put_u32(out, 4, flags_of(response.kind, response.zero));
     put_u64(out, 8, response.handle);
     put_u64(out, 16, response.tag);
@@ -62,17 +69,17 @@ fn write_header(out: &mut [u8], version: Version, response: &Response)
 }
 
 /// The access descriptor, at a place, with the composite right behind it.
-fn write_access(out: &mut [u8], at: usize, response: &Response)
-    requires room { at + 16 ≤ length out.old }
-    requires place { at < 4096 }
-    ensures { (old front : List ℕ) (version : Version) → at ≡ header_size version → Wrote old front at out.old
-        → Wrote old (front ++ access_bytes version (response_record response.now)) (at + 16) out.new }
+fn write_access(out: &mut [u8], version: Version, at: usize, response: &Response)
+    requires room { at + accesses_size version 1 ≤ length out.old }
+    requires place { at ≡ header_size version }
+    ensures { (old front : List ℕ) → Wrote old front at out.old
+        → Wrote old (front ++ access_bytes version (response_record response.now)) (at + accesses_size version 1) out.new }
 {
     put_u16(out, at, response.endpoint.0);
     put_u8(out, at + 2, permissions_of(response.rights));
     put_u8(out, at + 3, 0);
-    put_u32(out, at + 4, at as u32 + ENTRY_SIZE);
-    put_u64(out, at + 8, 0);
+    put_u32(out, at + 4, at as u32 + accesses_size(version, 1) as u32);
+    write_access_rest(out, version, at);
 }
 
 // The response in the form of a version. Its callers know which, so all places are constants where it is inlined.
@@ -85,11 +92,12 @@ fn write_in(response: &Response, version: Version, out: &mut [u8; 4096]) -> usiz
 {
     let ranges = response.ranges.as_slice();
     let header = header_size(version) as usize;
+    let composite = header + accesses_size(version, 1) as usize;
     write_header(out, version, response);
-    write_access(out, header, response);
-    write_composite(out, header + 16, ranges);
-    write_ranges(out, header + 32, ranges);
-    header + 32 + ENTRY_SIZE as usize * ranges.len()
+    write_access(out, version, header, response);
+    write_composite(out, composite, ranges);
+    write_ranges(out, composite + 16, ranges);
+    composite + 16 + RANGE_SIZE as usize * ranges.len()
 }
 
 /// Writes a response to a caller of this version from the page's first byte on, and answers how many bytes it has. The
@@ -103,5 +111,6 @@ pub fn write_response(response: &Response, version: Version, out: &mut [u8; 4096
     match version {
         Version::Compact => write_in(response, Version::Compact, out),
         Version::V1_1 => write_in(response, Version::V1_1, out),
+        Version::V1_2 => write_in(response, Version::V1_2, out),
     }
 }

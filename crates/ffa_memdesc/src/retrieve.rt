@@ -53,10 +53,10 @@ fn check_header(header: &Header) -> Result<(), RetrieveFlaw>
 /// Whether the access descriptor is that of a retrieve for this endpoint.
 #[tactic(auto, unfolding(ffa_model::specs::RetrieveDescriptor::is_retrieve_access, ffa_model::specs::FirstFlaws::asked_access_flaw))]
 fn check_access(endpoint: EndpointId, access: &Access) -> Result<(), RetrieveFlaw>
-    ensures fits { (b : Versioned) → access.now ≡ access_in b.bytes (array_place b)
+    ensures fits { (b : Versioned) → access.now ≡ access_in b (array_place b)
         → OnOk result (is_retrieve_access endpoint.0 b ≡ true) }
     ensures first { let broken = option_map (λ flaw. FlawOfRetrieve flaw) (result_err result) in
-        (b : Versioned) → access.now ≡ access_in b.bytes (array_place b) → broken ≡ asked_access_flaw endpoint.0 b }
+        (b : Versioned) → access.now ≡ access_in b (array_place b) → broken ≡ asked_access_flaw endpoint.0 b }
 {
     if access.endpoint.0 != endpoint.0 {
         return Err(RetrieveFlaw::ReceiverIsAnother);
@@ -76,7 +76,7 @@ fn check_access(endpoint: EndpointId, access: &Access) -> Result<(), RetrieveFla
     if access.composite != 0 {
         return Err(RetrieveFlaw::CompositeTold);
     }
-    if access.reserved != 0 {
+    if !access.is_rest_zero {
         return Err(RetrieveFlaw::AccessReserved);
     }
     Ok(())
@@ -97,7 +97,7 @@ fn retrieve_in<B: Bytes>(
     if let Err(flaw) = check_header(&header) {
         return Err(Flaw::Retrieve(flaw));
     }
-    let access = read_access(bytes, header.array as usize);
+    let access = read_access(bytes, version, header.array as usize);
     if let Err(flaw) = check_access(endpoint, &access) {
         return Err(Flaw::Retrieve(flaw));
     }

@@ -5,18 +5,18 @@ ghost use Rattle.std.specs.Prelude.{◌≡◌, ◌≤◌, true, Some, IfErr, OnO
 ghost use Rattle.std.specs.Option.{option_map};
 ghost use Rattle.std.specs.Result.{result_ok, result_err};
 ghost use Rattle.ffa_model.specs.declared.limits.TheConstants.{MOST_RECEIVERS};
-ghost use Rattle.ffa_model.specs.DescriptorPlaces.{Versioned, in_version};
+ghost use Rattle.ffa_model.specs.DescriptorPlaces.{Versioned, in_version, kind_code};
 ghost use Rattle.ffa_model.specs.FirstFlaws.{send_header_flaw, send_flaw};
 ghost use Rattle.ffa_model.specs.Flaws.{SendBreaks};
 ghost use Rattle.ffa_model.specs.declared.flaw.Flaw.TheVariants.{Send as FlawOfSend};
-ghost use Rattle.ffa_model.specs.SendDescriptor.{SendRecord, send_record, Send, send_of, most_flags, most_receivers, attributes_of, is_send_header};
+ghost use Rattle.ffa_model.specs.SendDescriptor.{SendRecord, send_record, Send, send_of, most_flags, most_receivers, attributes_of, flags_but_type, is_attributes, is_send_header};
 ghost use Rattle.ffa_memdesc.specs.Reading.{header_in};
 
 use crate::bytes::{Bytes, read_u32};
 use crate::header::{Header, NORMAL_MEMORY, read_header};
 use crate::ranges::{page_total, read_range_count, read_ranges};
 use crate::receivers::read_receivers;
-use ffa_model::{CompositeFlaw, Flaw, Kind, MOST_RECEIVERS, SendDesc, SendFlaw, Version};
+use ffa_model::{CompositeFlaw, Ffa, Flaw, Kind, MOST_RECEIVERS, SendDesc, SendFlaw, Version};
 
 /// The greatest flags of a send. Bit 0 asks for zeros, but not in a share.
 fn most_flags(kind: Kind) -> u32
@@ -49,18 +49,50 @@ pub fn attributes_of(kind: Kind, count: u32) -> u16
     }
 }
 
+/// Whether these are the memory attributes of a send to this many receivers.
+fn is_attributes(ffa: Ffa, kind: Kind, count: u32, attributes: u16) -> bool
+    ensures { result ≡ is_attributes ffa kind count attributes }
+{
+    match (ffa, kind) {
+        (Ffa::V1_2, Kind::Lend) => attributes == 0 || attributes == NORMAL_MEMORY,
+        _ => attributes == attributes_of(kind, count),
+    }
+}
+
+/// The type of a transaction, as bits 4:3 of the flags name it.
+fn kind_code(kind: Kind) -> u32
+    ensures { result ≡ kind_code (Some kind) }
+{
+    match kind {
+        Kind::Share => 1,
+        Kind::Lend => 2,
+        Kind::Donate => 3,
+    }
+}
+
+/// What the flags of a send say beside its type, which they may name in FF-A 1.2.
+fn flags_but_type(ffa: Ffa, kind: Kind, flags: u32) -> u32
+    ensures { result ≡ flags_but_type ffa kind flags }
+{
+    if ffa == Ffa::V1_2 && flags >> 3 & 3 == kind_code(kind) {
+        flags.saturating_sub(8 * kind_code(kind))
+    } else {
+        flags
+    }
+}
+
 /// Whether the header is that of a send.
 #[tactic(auto, unfolding(ffa_model::specs::SendDescriptor::is_send_header, ffa_model::specs::FirstFlaws::send_header_flaw))]
-fn check_header(kind: Kind, header: &Header) -> Result<(), SendFlaw>
-    ensures fits { (b : Versioned) → header.now ≡ header_in b → OnOk result (is_send_header kind b ≡ true) }
+fn check_header(ffa: Ffa, kind: Kind, header: &Header) -> Result<(), SendFlaw>
+    ensures fits { (b : Versioned) → header.now ≡ header_in b → OnOk result (is_send_header ffa kind b ≡ true) }
     ensures few { OnOk result (header.now.count ≤ MOST_RECEIVERS) }
     ensures first { let broken = option_map (λ flaw. FlawOfSend flaw) (result_err result) in
-        (b : Versioned) → header.now ≡ header_in b → broken ≡ send_header_flaw kind b }
+        (b : Versioned) → header.now ≡ header_in b → broken ≡ send_header_flaw ffa kind b }
 {
-    if header.attributes != attributes_of(kind, header.count) {
+    if !is_attributes(ffa, kind, header.count, header.attributes) {
         return Err(SendFlaw::Attributes);
     }
-    if header.flags > most_flags(kind) {
+    if flags_but_type(ffa, kind, header.flags) > most_flags(kind) {
         return Err(SendFlaw::Flags);
     }
     if header.handle != 0 {
@@ -77,23 +109,24 @@ fn check_header(kind: Kind, header: &Header) -> Result<(), SendFlaw>
 
 fn send_in<B: Bytes>(
     bytes: &B,
+    ffa: Ffa,
     version: Version,
     kind: Kind,
     offer: &mut SendDesc,
 ) -> Result<(), Flaw>
-    ensures found { OnOk result (Some (send_record offer.new) ≡ send_of kind (in_version version (B.bytes bytes.now))) }
-    ensures first { result_err result ≡ send_flaw kind (in_version version (B.bytes bytes.now)) }
+    ensures found { OnOk result (Some (send_record offer.new) ≡ send_of ffa kind (in_version version (B.bytes bytes.now))) }
+    ensures first { result_err result ≡ send_flaw ffa kind (in_version version (B.bytes bytes.now)) }
 {
     let header = match read_header(bytes, version) {
         Ok(header) => header,
         Err(flaw) => return Err(Flaw::Header(flaw)),
     };
-    if let Err(flaw) = check_header(kind, &header) {
+    if let Err(flaw) = check_header(ffa, kind, &header) {
         return Err(Flaw::Send(flaw));
     }
     let composite = read_u32(bytes, header.array as usize + 4);
-    let receivers = read_receivers(bytes, kind, &header, composite)?;
-    let count = match read_range_count(bytes, &header, composite) {
+    let receivers = read_receivers(bytes, version, kind, &header, composite)?;
+    let count = match read_range_count(bytes, version, &header, composite) {
         Ok(count) => count,
         Err(flaw) => return Err(Flaw::Composite(flaw)),
     };
@@ -103,27 +136,28 @@ fn send_in<B: Bytes>(
         return Err(Flaw::Composite(CompositeFlaw::Total));
     }
     offer.sender = header.sender;
-    offer.zero = header.flags == 1;
+    offer.zero = flags_but_type(ffa, kind, header.flags) == 1;
     offer.tag = header.tag;
     offer.receivers = receivers;
     Ok(())
 }
 
-/// Puts what the bytes say, wherever they lie, as a send descriptor of this kind, from a caller of this
+/// Puts what the bytes say, wherever they lie, as a send descriptor of this kind, for a machine of this FF-A and from a caller of this
 /// version, in the place of an offer, which is large to clear and to move. An error is the first condition of
 /// these that they break, and says nothing of the offer.
 pub fn read_send<B: Bytes>(
     bytes: &B,
+    ffa: Ffa,
     version: Version,
     kind: Kind,
     offer: &mut SendDesc,
 ) -> Result<(), Flaw>
-    ensures found { OnOk result (Send kind (in_version version (B.bytes bytes.now)) (send_record offer.new)) }
-    ensures none { OnErr result ((r : SendRecord) → Send kind (in_version version (B.bytes bytes.now)) r → ⊥) }
+    ensures found { OnOk result (Send ffa kind (in_version version (B.bytes bytes.now)) (send_record offer.new)) }
+    ensures none { OnErr result ((r : SendRecord) → Send ffa kind (in_version version (B.bytes bytes.now)) r → ⊥) }
     ensures computed { let offered = option_map (λ _. send_record offer.new) (result_ok result) in
-        offered ≡ send_of kind (in_version version (B.bytes bytes.now)) }
-    ensures broken { IfErr result (SendBreaks kind (in_version version (B.bytes bytes.now))) }
-    ensures first { result_err result ≡ send_flaw kind (in_version version (B.bytes bytes.now)) }
+        offered ≡ send_of ffa kind (in_version version (B.bytes bytes.now)) }
+    ensures broken { IfErr result (SendBreaks ffa kind (in_version version (B.bytes bytes.now))) }
+    ensures first { result_err result ≡ send_flaw ffa kind (in_version version (B.bytes bytes.now)) }
 {
-    send_in(bytes, version, kind, offer)
+    send_in(bytes, ffa, version, kind, offer)
 }

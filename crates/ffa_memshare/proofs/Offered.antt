@@ -10,6 +10,7 @@ use Rattle.std.proofs.lemmas.Bool.{and_parts, eq-eqb, eqb-true, leb-true, ltb-tr
 use Rattle.ffa_model.specs.declared.rights.Data.{Data}
 use Rattle.ffa_model.specs.declared.rights.Data.TheVariants.{Ro, Rw}
 use Rattle.ffa_model.specs.declared.rights.Rights.{Rights}
+use Rattle.ffa_model.specs.declared.manifest.Ffa.{Ffa}
 use Rattle.ffa_model.specs.declared.rights.Kind.{Kind}
 use Rattle.ffa_model.specs.declared.transaction.Range.{Range}
 use Rattle.ffa_model.specs.declared.transaction.Receiver.{Receiver}
@@ -33,16 +34,16 @@ use Rattle.ffa_memshare.specs.Offers.{AreAligned, IsOwnOffer, grants_writes, wri
 use Rattle.ffa_memshare.specs.Ranges.{ArePlaced, IsPlaced, in_range, in_ranges}
 
 -- the ranges of a descriptor begin where pages do
-pub sent-aligned : (kind : Kind) (b : Versioned) (r : SendRecord) → Send kind b r → AreAligned r.ranges
-sent-aligned kind b r send i x lt is =
+pub sent-aligned : (ffa : Ffa) (kind : Kind) (b : Versioned) (r : SendRecord) → Send ffa kind b r → AreAligned r.ranges
+sent-aligned ffa kind b r send i x lt is =
     let n = range_count b in
     let less : i < n = omega (arith, lt, ap (λ (rs : List Range). length rs) send.ranges, length-listed n (range_in b)) in
     let at : x ≡ range_in b i = is ∙ ap (λ (rs : List Range). get_or rs i x) send.ranges ∙ get_or-listed n (range_in b) i x less in
     ap (λ (q : Range). q.address % 4096) at ∙ (send.each i less).aligned
 
 -- and its receivers are others than its sender
-pub sent-other : (kind : Kind) (b : Versioned) (r : SendRecord) → Send kind b r → is_named r.sender r.receivers ≡ false
-sent-other kind b r send =
+pub sent-other : (ffa : Ffa) (kind : Kind) (b : Versioned) (r : SendRecord) → Send ffa kind b r → is_named r.sender r.receivers ≡ false
+sent-other ffa kind b r send =
     ap (is_named r.sender) send.receivers
     ∙ each (receiver_count b) (receiver_in b) (λ i lt is. (send.accesses i lt).other (is ∙ send.sender))
   where

@@ -9,6 +9,7 @@ use Rattle.ffa_model.specs.declared.call.Transfer.{Transfer}
 use Rattle.ffa_model.specs.declared.descriptor.RelinquishDesc.{RelinquishDesc}
 use Rattle.ffa_model.specs.declared.descriptor.RetrieveDesc.{RetrieveDesc}
 use Rattle.ffa_model.specs.declared.refusal.Refusal.{Refusal}
+use Rattle.ffa_model.specs.declared.manifest.Ffa.{Ffa}
 use Rattle.ffa_model.specs.declared.rights.Kind.{Kind}
 use Rattle.ffa_model.specs.About.{failing_send}
 use Rattle.ffa_model.specs.AboutContents.{about_send, where_whole}
@@ -43,13 +44,13 @@ pub record IsGivenUp (slots : List Slot) (bytes : List ℕ) (found : FoundReturn
   pub zero : found.zero ≡ asked.zero
 
 -- a check of a send of this kind by e, with what its bytes tell of it
-abbrev pub sent_told : Scene → Identifier → Kind → Transfer → Versioned → Refusal → Refusal × Explained
-sent_told scene e kind x bytes refusal = (
+abbrev pub sent_told : Scene → Identifier → Ffa → Kind → Transfer → Versioned → Refusal → Refusal × Explained
+sent_told scene e ffa kind x bytes refusal = (
   refusal,
   record {
-    about = where_whole scene.buffers e x (about_send kind scene.endpoints bytes refusal);
-    page = failing_send e scene.ram scene.buffers scene.normal x (send_of kind bytes) refusal;
-    mend = mend_send scene.buffers scene.ram scene.normal e x (send_of kind bytes) refusal;
+    about = where_whole scene.buffers e x (about_send ffa kind scene.endpoints bytes refusal);
+    page = failing_send e scene.ram scene.buffers scene.normal x (send_of ffa kind bytes) refusal;
+    mend = mend_send scene.buffers scene.ram scene.normal e x (send_of ffa kind bytes) refusal;
     receivers = told_receivers scene.buffers e x bytes;
   },
 )

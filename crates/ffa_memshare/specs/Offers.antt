@@ -9,6 +9,7 @@ use Rattle.ffa_model.specs.declared.refusal.Refusal.{Refusal}
 use Rattle.ffa_model.specs.declared.refusal.Refusal.TheVariants.{GrantTooMuch, ZerosUnwritable}
 use Rattle.ffa_model.specs.declared.transaction.Range.{Range}
 use Rattle.ffa_model.specs.declared.transaction.Receiver.{Receiver}
+use Rattle.ffa_model.specs.declared.manifest.Ffa.{Ffa}
 use Rattle.ffa_model.specs.declared.rights.Kind.{Kind}
 use Rattle.ffa_model.specs.DescriptorPlaces.{Versioned}
 use Rattle.ffa_model.specs.MemorySend.{are_grants_within, is_told_normal, transaction_from}
@@ -49,10 +50,10 @@ opened_by table base normal kind offer =
     transaction_from kind (is_told_normal (ownership_in table base) normal offer.ranges) offer
 
 -- these bytes describe an offer of e's own pages to others, and this is the transaction that it opens
-pub record DescribesOffer (table : List (Option Entry)) (base : ℕ) (normal : Option (List Region)) (e : ℕ) (kind : Kind)
+pub record DescribesOffer (table : List (Option Entry)) (base : ℕ) (normal : Option (List Region)) (e : ℕ) (ffa : Ffa) (kind : Kind)
     (bytes : Versioned) (t : Transaction) : Type 0 where
   pub offer : SendRecord
-  pub described : send_of kind bytes ≡ Some offer
+  pub described : send_of ffa kind bytes ≡ Some offer
   pub transaction : t ≡ opened_by table base normal kind offer
   pub own : IsOwnOffer table base e offer
   pub other : is_named offer.sender offer.receivers ≡ false

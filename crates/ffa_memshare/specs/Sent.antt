@@ -1,6 +1,7 @@
 -- SPDX-License-Identifier: MIT OR Apache-2.0
 -- What a send leaves.
 use Rattle.std.specs.Prelude.{◌≡◌, ℕ, false, Option, Some, None}
+use Rattle.ffa_model.specs.declared.manifest.Ffa.{Ffa}
 use Rattle.ffa_model.specs.declared.rights.Kind.{Kind}
 use Rattle.ffa_model.specs.declared.rights.Kind.TheVariants.{Share, Lend, Donate}
 use Rattle.ffa_model.specs.Access.{is_receiver}
@@ -36,10 +37,10 @@ offered_by memory kind offer = opened_by memory.entries memory.base memory.norma
 -- The parts after e has sent what these bytes describe: a free slot of e has it, e's pages are marked with that
 -- slot, e has the right to them that it keeps, and they are zeros where that is asked; and the news say which access
 -- changed.
-pub record IsSent (old new : MemoryParts) (e : ℕ) (kind : Kind) (bytes : Versioned) (news : Option Changed) : Type 0 where
+pub record IsSent (old new : MemoryParts) (e : ℕ) (ffa : Ffa) (kind : Kind) (bytes : Versioned) (news : Option Changed) : Type 0 where
   pub offer : SendRecord
   pub slot : ℕ
-  pub described : send_of kind bytes ≡ Some offer
+  pub described : send_of ffa kind bytes ≡ Some offer
   pub own : IsOwnOffer old.memory.entries old.memory.base e offer
   pub other : is_receiver e (offered_by old.memory kind offer) ≡ false
   pub opened : IsOpened old.pool new.pool slot (next_handle (open_in old.pool) e) (offered_by old.memory kind offer)

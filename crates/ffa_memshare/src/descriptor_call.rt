@@ -11,7 +11,7 @@ ghost use Rattle.ffa_rxtx.specs.Stored.{buffers_of};
 ghost use Rattle.ffa_memshare.specs.Scenes.{descriptor_in};
 
 use crate::page_run::PageRun;
-use ffa_model::{EndpointId, Refusal, Transfer, Version};
+use ffa_model::{EndpointId, Ffa, Refusal, Transfer, Version};
 use ffa_physmem::PhysMem;
 use ffa_rxtx::{Buffers, Mapped};
 
@@ -29,6 +29,8 @@ pub(crate) struct Descriptor<'m, M: PhysMem> {
 pub struct DescriptorCall {
     /// Its registers.
     pub transfer: Transfer,
+    /// The version of FF-A that the machine serves.
+    pub ffa: Ffa,
     /// The form in which its caller writes descriptors, and reads the answer to a retrieve.
     pub version: Version,
 }

@@ -11,7 +11,7 @@ ghost use Rattle.ffa_model.specs.Flaws.{SendBreaks, RetrieveBreaks, RelinquishBr
 ghost use Rattle.ffa_model.specs.SendDescriptor.{Send, send_of, send_record};
 
 use ffa_memdesc::{Bytes, Flaw};
-use ffa_model::{EndpointId, Kind, PageNo, RelinquishDesc, RetrieveDesc, SendDesc, Version};
+use ffa_model::{EndpointId, Ffa, Kind, PageNo, RelinquishDesc, RetrieveDesc, SendDesc, Version};
 use ffa_physmem::{PAGE_SIZE, PhysMem};
 use std::marker::Model;
 
@@ -85,23 +85,24 @@ impl<'m, M: PhysMem> Bytes for PageRun<'m, M> {
     }
 }
 
-/// Puts what the bytes say as a send descriptor of this kind, from a caller of this version, in the place of
-/// an offer; else the first condition that they break. In one page they are read as a slice.
+/// Puts what the bytes say as a send descriptor of this kind, for a machine of this FF-A and from a caller of this
+/// version, in the place of an offer; else the first condition that they break. In one page they are read as a slice.
 pub(crate) fn read_send<M: PhysMem>(
     bytes: &PageRun<M>,
+    ffa: Ffa,
     version: Version,
     kind: Kind,
     offer: &mut SendDesc,
 ) -> Result<(), Flaw>
-    ensures found { OnOk result (Send kind (in_version version bytes.now) (send_record offer.new)) }
+    ensures found { OnOk result (Send ffa kind (in_version version bytes.now) (send_record offer.new)) }
     ensures computed { let offered = option_map (λ _. send_record offer.new) (result_ok result) in
-        offered ≡ send_of kind (in_version version bytes.now) }
-    ensures broken { IfErr result (SendBreaks kind (in_version version bytes.now)) }
-    ensures first { result_err result ≡ send_flaw kind (in_version version bytes.now) }
+        offered ≡ send_of ffa kind (in_version version bytes.now) }
+    ensures broken { IfErr result (SendBreaks ffa kind (in_version version bytes.now)) }
+    ensures first { result_err result ≡ send_flaw ffa kind (in_version version bytes.now) }
 {
     match bytes.in_one_page() {
-        Some(page) => ffa_memdesc::read_send(&page, version, kind, offer),
-        None => ffa_memdesc::read_send(bytes, version, kind, offer),
+        Some(page) => ffa_memdesc::read_send(&page, ffa, version, kind, offer),
+        None => ffa_memdesc::read_send(bytes, ffa, version, kind, offer),
     }
 }
 

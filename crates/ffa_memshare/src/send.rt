@@ -61,7 +61,7 @@ impl<O: Room<OpenSlot> + Drop> Pool<O> {
             let end = table_page first layout.now.blocks (array_vec_len layout.now.regions) 0 in
             (p : ℕ) → first ≤ p → p < end → entry_at pages.old p ≡ None }
         ensures refusal { let parts = memory_parts (M.ram ram.old) layout.now pages.old buffers.now self.old in
-            let offer = send_of kind (descriptor_in (M.ram ram.old) buffers.now caller.0 call.now) in
+            let offer = send_of call.now.ffa kind (descriptor_in (M.ram ram.old) buffers.now caller.0 call.now) in
             result_err result ≡ first_failure (send_guards (scene_in parts) caller.0 call.now.transfer offer) }
         ensures kept { OnErr result (self.new ≡ self.old) }
         ensures kept_pages { OnErr result (pages.new ≡ pages.old) }
@@ -72,7 +72,7 @@ impl<O: Room<OpenSlot> + Drop> Pool<O> {
         ensures sent { let before = memory_parts (M.ram ram.old) layout.now pages.old buffers.now self.old in
             let after = memory_parts (M.ram ram.new) layout.now pages.new buffers.now self.new in
             let bytes = descriptor_in (M.ram ram.old) buffers.now caller.0 call.now in
-            OnOk result (IsSent before after caller.0 kind bytes news.new) }
+            OnOk result (IsSent before after caller.0 call.now.ffa kind bytes news.new) }
 
         // At each moment the walks of all endpoints at an address are those from before the call, or all are
         // those from behind.

@@ -18,6 +18,9 @@ use Rattle.ffa_model.specs.declared.flaw.RelinquishFlaw.TheVariants.{Flags as Re
 use Rattle.ffa_model.specs.declared.limits.TheConstants.{MOST_BUFFER_PAGES, MOST_RANGES}
 use Rattle.ffa_model.specs.declared.refusal.Refusal.{Refusal}
 use Rattle.ffa_model.specs.declared.refusal.Refusal.TheVariants.{FlagsReserved, ContextUnknown, BufferPageCount, EndpointNotZero, EndpointNotNormalWorld, ContextCount, ClassesUnknown, Fragmented, BufferAddressGiven, BufferPagesGiven}
+use Rattle.ffa_model.specs.declared.endpoint.Version.{Version}
+use Rattle.ffa_model.specs.declared.manifest.Ffa.{Ffa}
+use Rattle.ffa_model.specs.declared.manifest.Ffa.TheVariants.{V1_2}
 use Rattle.ffa_model.specs.declared.rights.Kind.{Kind}
 use Rattle.ffa_model.specs.declared.rights.Kind.TheVariants.{Share, Lend, Donate}
 use Rattle.ffa_model.specs.declared.why.About.{About}
@@ -25,7 +28,7 @@ use Rattle.ffa_model.specs.declared.why.About.TheVariants.{Register, Field}
 use Rattle.ffa_model.specs.Numbers.{Identifier}
 use Rattle.ffa_model.specs.Bits.{word_of_two}
 use Rattle.ffa_model.specs.Calls.{first_refusal}
-use Rattle.ffa_model.specs.DescriptorPlaces.{Versioned, normal_memory, receiver_count}
+use Rattle.ffa_model.specs.DescriptorPlaces.{Versioned, accesses_size, normal_memory, receiver_count}
 use Rattle.ffa_model.specs.MemorySend.{descriptor_in, transfer_guards}
 use Rattle.ffa_model.specs.SendDescriptor.{attributes_of, most_flags, most_receivers}
 use Rattle.ffa_model.specs.State.{State, Buffers}
@@ -90,7 +93,7 @@ allowed_register contexts call BufferAddressGiven = Some (one 0)
 allowed_register contexts call BufferPagesGiven = Some (one 0)
 allowed_register contexts call refusal = None
 
--- FIELDS of an offer to so many receivers, if its header tells how many, in so many bytes
+-- FIELDS of an offer to so many receivers, if its header tells how many, in so many bytes of a form, to a machine of this FF-A
 
 abbrev pub allowed_permissions : Kind → Allowed
 allowed_permissions Share = between 1 2
@@ -109,27 +112,33 @@ allowed_places end length =
     if nat_le (end + 32) length then Some (steps end (length - 32 - (length - 32 - end) % 16) 16) else None
 
 -- by the place of the first of so many access descriptors
-abbrev pub allowed_behind : ℕ → Option ℕ → ℕ → Option Allowed
-allowed_behind array receivers length = option_and_then (λ n. allowed_places (array + 16 * n) length) receivers
+abbrev pub allowed_behind : Version → ℕ → Option ℕ → ℕ → Option Allowed
+allowed_behind version array receivers length =
+    option_and_then (λ n. allowed_places (array + accesses_size version n) length) receivers
+
+-- the memory attributes
+abbrev pub allowed_attributes : Ffa → Kind → ℕ → Allowed
+allowed_attributes V1_2 Lend receivers = either 0 normal_memory
+allowed_attributes ffa kind receivers = one (attributes_of kind receivers)
 
 -- the offset of the composite stands 4 bytes behind the first access descriptor's place
-abbrev pub allowed_offer : Kind → Option ℕ → ℕ → FieldPlace → Flaw → Option Allowed
-allowed_offer kind receivers length place (Send Attributes) = option_map (λ n. one (attributes_of kind n)) receivers
-allowed_offer kind receivers length place (Send Flags) = Some (between 0 (most_flags kind))
-allowed_offer kind receivers length place (Send HandleGiven) = Some (one 0)
-allowed_offer kind receivers length place (Send NoReceiver) = Some (between 1 (most_receivers kind))
-allowed_offer kind receivers length place (Send ManyReceivers) = Some (between 1 (most_receivers kind))
-allowed_offer kind receivers length place (AccessOf index Permissions) = Some (allowed_permissions kind)
-allowed_offer kind receivers length place (AccessOf index AccessFlags) = Some (one 0)
-allowed_offer kind receivers length place (AccessOf index AccessReserved) = Some (one 0)
-allowed_offer kind receivers length place (Composite Outside) = allowed_behind (place.first - 4) receivers length
-allowed_offer kind receivers length place (Composite Unaligned) = allowed_behind (place.first - 4) receivers length
-allowed_offer kind receivers length place (Composite InArray) = allowed_behind (place.first - 4) receivers length
-allowed_offer kind receivers length place (Composite NoRange) = Some (between 1 MOST_RANGES)
-allowed_offer kind receivers length place (Composite ManyRanges) = Some (between 1 MOST_RANGES)
-allowed_offer kind receivers length place (Composite CompositeReserved) = Some (one 0)
-allowed_offer kind receivers length place (RangeOf index RangeReserved) = Some (one 0)
-allowed_offer kind receivers length place flaw = None
+abbrev pub allowed_offer : Ffa → Version → Kind → Option ℕ → ℕ → FieldPlace → Flaw → Option Allowed
+allowed_offer ffa version kind receivers length place (Send Attributes) = option_map (allowed_attributes ffa kind) receivers
+allowed_offer ffa version kind receivers length place (Send Flags) = Some (between 0 (most_flags kind))
+allowed_offer ffa version kind receivers length place (Send HandleGiven) = Some (one 0)
+allowed_offer ffa version kind receivers length place (Send NoReceiver) = Some (between 1 (most_receivers kind))
+allowed_offer ffa version kind receivers length place (Send ManyReceivers) = Some (between 1 (most_receivers kind))
+allowed_offer ffa version kind receivers length place (AccessOf index Permissions) = Some (allowed_permissions kind)
+allowed_offer ffa version kind receivers length place (AccessOf index AccessFlags) = Some (one 0)
+allowed_offer ffa version kind receivers length place (AccessOf index AccessReserved) = Some (one 0)
+allowed_offer ffa version kind receivers length place (Composite Outside) = allowed_behind version (place.first - 4) receivers length
+allowed_offer ffa version kind receivers length place (Composite Unaligned) = allowed_behind version (place.first - 4) receivers length
+allowed_offer ffa version kind receivers length place (Composite InArray) = allowed_behind version (place.first - 4) receivers length
+allowed_offer ffa version kind receivers length place (Composite NoRange) = Some (between 1 MOST_RANGES)
+allowed_offer ffa version kind receivers length place (Composite ManyRanges) = Some (between 1 MOST_RANGES)
+allowed_offer ffa version kind receivers length place (Composite CompositeReserved) = Some (one 0)
+allowed_offer ffa version kind receivers length place (RangeOf index RangeReserved) = Some (one 0)
+allowed_offer ffa version kind receivers length place flaw = None
 
 -- how many receivers the header of a descriptor tells that stands whole in TX of e
 abbrev pub told_receivers : List (Option Buffers) → Identifier → Transfer → Versioned → Option ℕ
@@ -161,14 +170,14 @@ receivers_of s (calls.MemShare transfer) = receivers_told s transfer
 receivers_of s call = None
 
 -- of an offer to so many receivers, and of other calls
-abbrev pub allowed_field : Option ℕ → Call → FieldPlace → Flaw → Option Allowed
-allowed_field receivers (calls.MemDonate transfer) place flaw = allowed_offer Donate receivers transfer.total place flaw
-allowed_field receivers (calls.MemLend transfer) place flaw = allowed_offer Lend receivers transfer.total place flaw
-allowed_field receivers (calls.MemShare transfer) place flaw = allowed_offer Share receivers transfer.total place flaw
-allowed_field receivers call place flaw = allowed_asked flaw
+abbrev pub allowed_field : Ffa → Version → Option ℕ → Call → FieldPlace → Flaw → Option Allowed
+allowed_field ffa version receivers (calls.MemDonate transfer) place flaw = allowed_offer ffa version Donate receivers transfer.total place flaw
+allowed_field ffa version receivers (calls.MemLend transfer) place flaw = allowed_offer ffa version Lend receivers transfer.total place flaw
+allowed_field ffa version receivers (calls.MemShare transfer) place flaw = allowed_offer ffa version Share receivers transfer.total place flaw
+allowed_field ffa version receivers call place flaw = allowed_asked flaw
 
 -- a check of a call that fails, where it is about a register, or about a field whose value is told
-abbrev pub allowed_check : ℕ → Option ℕ → Call → Refusal → Option About → Option Allowed
-allowed_check contexts receivers call refusal (Some (Register number value)) = allowed_register contexts call refusal
-allowed_check contexts receivers call refusal (Some (Field flaw place (Some value))) = allowed_field receivers call place flaw
-allowed_check contexts receivers call refusal about = None
+abbrev pub allowed_check : ℕ → Ffa → Version → Option ℕ → Call → Refusal → Option About → Option Allowed
+allowed_check contexts ffa version receivers call refusal (Some (Register number value)) = allowed_register contexts call refusal
+allowed_check contexts ffa version receivers call refusal (Some (Field flaw place (Some value))) = allowed_field ffa version receivers call place flaw
+allowed_check contexts ffa version receivers call refusal about = None

@@ -4,6 +4,7 @@ use Rattle.std.proofs.Common.{◌≡◌, ◌∙◌, ℕ, ◌*◌, is_some, Bool,
 use Rattle.std.specs.Prelude.{◌==◌, ◌&&◌, if◌then◌else◌}
 use Rattle.std.specs.Option.{option_or}
 use Rattle.ffa_model.specs.declared.call.DirectMessage.{DirectMessage}
+use Rattle.ffa_model.specs.declared.endpoint.Version.{Version}
 use Rattle.ffa_model.specs.declared.refusal.Refusal.{Refusal}
 use Rattle.ffa_model.specs.declared.refusal.Refusal.TheVariants.{AnswerMisdirected, BuffersMissing, FlagsReserved, NoRequest}
 use Rattle.ffa_model.specs.Buffers.{buffers_in, room_of}
@@ -34,21 +35,21 @@ refusal-append ((true, one) ∷ guards) more = refusal-append guards more
 refusal-append ((false, one) ∷ guards) more = refl
 
 -- the message in TX of a caller with these buffers, whose header is read
-module _ (parties : List Party) (ram : Ram) (buffers : List (Option Buffers)) (e : ℕ) (own : Buffers) (room : ℕ) (m : MessageHeader) (has : Some own ≡ buffers_in buffers e)
+module _ (parties : List Party) (ram : Ram) (buffers : List (Option Buffers)) (version : Version) (e : ℕ) (own : Buffers) (room : ℕ) (m : MessageHeader) (has : Some own ≡ buffers_in buffers e)
     (spans : room ≡ 4096 * own.pages) (read : m ≡ header_in (run_in ram own.tx own.pages)) where
-  in-parts : option_or (first_refusal (header_guards parties e room m)) (first_refusal (ends_guards parties buffers e m))
-      ≡ first_refusal (send2_guards parties buffers e (header_in (sent_in ram buffers e)))
+  in-parts : option_or (first_refusal (header_guards parties version e room m)) (first_refusal (ends_guards parties buffers e m))
+      ≡ first_refusal (send2_guards parties buffers version e (header_in (sent_in ram buffers e)))
   in-parts =
       let sent : m ≡ header_in (sent_in ram buffers e) = read ∙ ap (λ (o : Option Buffers). header_in (tx_in ram o)) has in
       let rooms : room ≡ room_of (buffers_in buffers e) = spans ∙ ap room_of has in
-      sym (refusal-append (header_guards parties e room m) (ends_guards parties buffers e m))
-      ∙ (λ i. first_refusal ((is_some (has i), BuffersMissing) ∷ header_guards parties e (rooms i) (sent i) ++ ends_guards parties buffers e (sent i)))
+      sym (refusal-append (header_guards parties version e room m) (ends_guards parties buffers e m))
+      ∙ (λ i. first_refusal ((is_some (has i), BuffersMissing) ∷ header_guards parties version e (rooms i) (sent i) ++ ends_guards parties buffers e (sent i)))
 
   -- is refused for its header, and else for its ends
-  pub refused-header : (refusal : Refusal) → Some refusal ≡ first_refusal (header_guards parties e room m)
-      → Some refusal ≡ first_refusal (send2_guards parties buffers e (header_in (sent_in ram buffers e)))
+  pub refused-header : (refusal : Refusal) → Some refusal ≡ first_refusal (header_guards parties version e room m)
+      → Some refusal ≡ first_refusal (send2_guards parties buffers version e (header_in (sent_in ram buffers e)))
   refused-header refusal is = ap (λ (o : Option Refusal). option_or o (first_refusal (ends_guards parties buffers e m))) is ∙ in-parts
 
-  pub refused-ends : (o : Option Refusal) → None ≡ first_refusal (header_guards parties e room m) → o ≡ first_refusal (ends_guards parties buffers e m)
-      → o ≡ first_refusal (send2_guards parties buffers e (header_in (sent_in ram buffers e)))
+  pub refused-ends : (o : Option Refusal) → None ≡ first_refusal (header_guards parties version e room m) → o ≡ first_refusal (ends_guards parties buffers e m)
+      → o ≡ first_refusal (send2_guards parties buffers version e (header_in (sent_in ram buffers e)))
   refused-ends o passes is = (λ i. option_or (passes i) (is i)) ∙ in-parts

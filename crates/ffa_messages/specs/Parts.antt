@@ -1,12 +1,13 @@
 -- SPDX-License-Identifier: MIT OR Apache-2.0
 -- What a message is read from, over the parts of the machine, and its checks by what they are about.
 use Rattle.std.specs.Prelude.{◌≡◌, ℕ, ◌+◌, ◌==◌, Bool, true, false, not, nat_le, List, [], ◌∷◌, length, Option, Some, None, slice_index_or, is_some}
+use Rattle.ffa_model.specs.declared.endpoint.Version.{Version}
 use Rattle.ffa_model.specs.declared.refusal.Refusal.{Refusal}
 use Rattle.ffa_model.specs.declared.refusal.Refusal.TheVariants.{FlagsReserved, HeaderReserved, SenderIsAnother, ReceiverUnknown, ReceiverIsCaller, MessageInHeader, MessageEmpty, MessageTooLong, MessagesUnsent, MessagesUnreceived, ReceiverBuffersMissing, ReceiverRxFull, ReceiverRxSmall}
 use Rattle.ffa_model.specs.Buffers.{buffers_in, is_full, room_of}
 use Rattle.ffa_model.specs.Calls.{first_failure}
 use Rattle.ffa_model.specs.Lists.{is_in_run}
-use Rattle.ffa_model.specs.Messages.{MessageHeader, header_in, send2_guards}
+use Rattle.ffa_model.specs.Messages.{MessageHeader, header_in, message_header_size, send2_guards}
 use Rattle.ffa_model.specs.Ram.{Ram}
 use Rattle.ffa_model.specs.State.{Party, Buffers, is_known_among, has_property}
 use Rattle.ffa_rxtx.specs.Parts.{IsInRam, tx_in}
@@ -30,10 +31,10 @@ receiver_in ram buffers e = (header_in (sent_in ram buffers e)).receiver
 abbrev pub size_in : Ram → List (Option Buffers) → ℕ → ℕ
 size_in ram buffers e = (header_in (sent_in ram buffers e)).offset + (header_in (sent_in ram buffers e)).size
 
--- where e's message passes its checks, no page of e's TX is one of the receiver's RX
-abbrev pub AreEndsApart : List Party → Ram → List (Option Buffers) → ℕ → Type 0
-AreEndsApart parties ram buffers e =
-    first_failure (send2_guards parties buffers e (header_in (sent_in ram buffers e))) ≡ None
+-- where e's message, in this form, passes its checks, no page of e's TX is one of the receiver's RX
+abbrev pub AreEndsApart : List Party → Ram → List (Option Buffers) → Version → ℕ → Type 0
+AreEndsApart parties ram buffers version e =
+    first_failure (send2_guards parties buffers version e (header_in (sent_in ram buffers e))) ≡ None
     → (from to : Buffers) → buffers_in buffers e ≡ Some from → buffers_in buffers (receiver_in ram buffers e) ≡ Some to
     → IsBeside from to
 
@@ -49,15 +50,15 @@ header_of m =
       size = m.size;
     }
 
--- the checks of a message by itself, in the TX of a caller that has room for so many bytes there
-abbrev pub header_guards : List Party → ℕ → ℕ → MessageHeader → List (Bool × Refusal)
-header_guards parties caller room m =
+-- the checks of a message by itself, in the TX of a caller of this form that has room for so many bytes there
+abbrev pub header_guards : List Party → Version → ℕ → ℕ → MessageHeader → List (Bool × Refusal)
+header_guards parties version caller room m =
     (m.flags == 0, FlagsReserved)
     ∷ (m.reserved == 0, HeaderReserved)
     ∷ (m.sender == caller, SenderIsAnother)
     ∷ (is_known_among (length parties) m.receiver, ReceiverUnknown)
     ∷ (not (m.receiver == caller), ReceiverIsCaller)
-    ∷ (nat_le 20 m.offset, MessageInHeader)
+    ∷ (nat_le (message_header_size version) m.offset, MessageInHeader)
     ∷ (not (m.size == 0), MessageEmpty)
     ∷ (nat_le (m.offset + m.size) room, MessageTooLong)
     ∷ []

@@ -6,7 +6,7 @@ ghost use Rattle.std.specs.Result.{result_err};
 ghost use Rattle.ffa_model.specs.Buffers.{buffers_in, room_of};
 ghost use Rattle.ffa_model.specs.Calls.{first_refusal};
 ghost use Rattle.ffa_model.specs.First.{party_of};
-ghost use Rattle.ffa_model.specs.Messages.{header_in, send2_guards};
+ghost use Rattle.ffa_model.specs.Messages.{header_in, message_header_size, send2_guards};
 ghost use Rattle.ffa_model.specs.RunStates.{is_waiting, request_guards, requester, response_guards, status_in, work_in};
 ghost use Rattle.ffa_model.specs.Sound.{IsSound};
 ghost use Rattle.ffa_model.specs.State.{is_known_among, is_partition_among};
@@ -15,13 +15,16 @@ ghost use Rattle.ffa_messages.specs.Parts.{AreInRam, ends_guards, header_guards,
 
 use crate::indirect::{MessageHeader, read_header};
 use crate::parties::{has_indirect_messages, receives_direct_requests, sends_direct_requests};
-use ffa_model::{DirectMessage, EndpointId, Manifest, Refusal, Status, Work};
+use ffa_model::{DirectMessage, EndpointId, Manifest, Refusal, Status, Version, Work};
 use ffa_physmem::PhysMem;
 use ffa_rxtx::{Buffers, Mapped};
 use ffa_schedule::Chain;
 
-/// How many bytes the header of a message has.
-const HEADER_SIZE: u32 = 20;
+/// How many bytes the header of a message has before FF-A 1.2.
+const SHORT_HEADER: u32 = 20;
+
+/// How many bytes the header of a message has in FF-A 1.2, where a reserved word and a UUID follow. The manager reads neither.
+const LONG_HEADER: u32 = 40;
 
 /// The checks of FFA_MSG_SEND_DIRECT_REQ in order: the first that fails, or the receiver, which may be asked.
 pub fn check_direct_req(
@@ -115,11 +118,17 @@ pub struct IndirectMessage {
 }
 
 impl MessageHeader {
-    // The checks of a message by itself, in the TX of a caller that has room for so many bytes there.
-    fn check(&self, manifest: &Manifest, caller: EndpointId, room: usize) -> Result<(), Refusal>
+    // The checks of a message by itself, in the TX of a caller of this form that has room for so many bytes there.
+    fn check(
+        &self,
+        manifest: &Manifest,
+        version: Version,
+        caller: EndpointId,
+        room: usize,
+    ) -> Result<(), Refusal>
         ensures refusal { result_err result
             ≡ first_refusal
-            (header_guards (map party_of manifest.now.endpoints.items) caller.0 room (header_of self.now)) }
+            (header_guards (map party_of manifest.now.endpoints.items) version caller.0 room (header_of self.now)) }
         ensures fits { OnOk result (self.now.offset + self.now.size ≤ room) }
         ensures known { OnOk result (is_known_among (length manifest.now.endpoints.items) self.now.receiver.0 ≡ true) }
     {
@@ -138,7 +147,7 @@ impl MessageHeader {
         if self.receiver == caller {
             return Err(Refusal::ReceiverIsCaller);
         }
-        if self.offset < HEADER_SIZE {
+        if self.offset < header_size(version) {
             return Err(Refusal::MessageInHeader);
         }
         if self.size == 0 {
@@ -184,17 +193,28 @@ impl MessageHeader {
     }
 }
 
-/// The checks of FFA_MSG_SEND2 in order: the first that fails, or the message, which may be sent.
+// How many bytes the header of a message has, by its sender's form.
+fn header_size(version: Version) -> u32
+    ensures { result ≡ message_header_size version }
+{
+    match version {
+        Version::V1_2 => LONG_HEADER,
+        _ => SHORT_HEADER,
+    }
+}
+
+/// The checks of FFA_MSG_SEND2 in order, of a caller of this form: the first that fails, or the message, which may be sent.
 pub fn check_send2<M: PhysMem>(
     ram: &M,
     buffers: &Buffers,
     manifest: &Manifest,
+    version: Version,
     caller: EndpointId,
 ) -> Result<IndirectMessage, Refusal>
     requires { AreInRam (length (M.ram ram.now).pages) buffers.now }
     ensures refusal { result_err result
         ≡ first_refusal
-        (send2_guards (map party_of manifest.now.endpoints.items) buffers.now caller.0
+        (send2_guards (map party_of manifest.now.endpoints.items) buffers.now version caller.0
         (header_in (sent_in (M.ram ram.now) buffers.now caller.0))) }
     ensures from { IfOk result (λ message. Some (buffers_of message.from) ≡ buffers_in buffers.now caller.0) }
     ensures receiver { IfOk result (λ message. message.receiver.0 ≡ receiver_in (M.ram ram.now) buffers.now caller.0) }
@@ -209,7 +229,7 @@ pub fn check_send2<M: PhysMem>(
         None => return Err(Refusal::BuffersMissing),
     };
     let header = read_header(ram, &from);
-    header.check(manifest, caller, from.room())?;
+    header.check(manifest, version, caller, from.room())?;
     header.check_ends(buffers, manifest, caller)?;
     Ok(IndirectMessage {
         from,

@@ -16,7 +16,7 @@ ghost use Rattle.ffa_messages.specs.Parts.{AreEndsApart, AreInRam, IsBeside, hea
 
 use crate::checks::check_send2;
 use byteorder::{ByteOrder, LittleEndian};
-use ffa_model::{EndpointId, ErrorCode, Manifest, PageNo};
+use ffa_model::{EndpointId, ErrorCode, Manifest, PageNo, Version};
 use ffa_physmem::{PAGE_SIZE, PhysMem};
 use ffa_rxtx::{Buffers, Mapped};
 
@@ -72,7 +72,7 @@ fn u32_at(page: &[u8; 4096], place: usize) -> u32
     LittleEndian::read_u32(&page[place..])
 }
 
-/// FFA_MSG_SEND2 of an endpoint (DEN0077A, 15): the message in its TX, with the header, goes to the receiver's RX,
+/// FFA_MSG_SEND2 of an endpoint of this form (DEN0077A, 15): the message in its TX, with the header, goes to the receiver's RX,
 /// which is full then. The other bytes of RX stay. Returns the receiver.
 ///
 /// # Errors
@@ -86,14 +86,15 @@ pub fn send2<M: PhysMem>(
     ram: &mut M,
     buffers: &mut Buffers,
     manifest: &Manifest,
+    version: Version,
     caller: EndpointId,
 ) -> Result<EndpointId, ErrorCode>
     requires known { is_known_among (length buffers.old) caller.0 ≡ true }
     requires pages { AreInRam (length (M.ram ram.old).pages) buffers.old }
-    requires apart { AreEndsApart (map party_of manifest.now.endpoints.items) (M.ram ram.old) buffers.old caller.0 }
+    requires apart { AreEndsApart (map party_of manifest.now.endpoints.items) (M.ram ram.old) buffers.old version caller.0 }
     ensures refusal { result_err result
         ≡ first_failure
-        (send2_guards (map party_of manifest.now.endpoints.items) buffers.old caller.0
+        (send2_guards (map party_of manifest.now.endpoints.items) buffers.old version caller.0
         (header_in (sent_in (M.ram ram.old) buffers.old caller.0))) }
     ensures receiver { IfOk result (λ receiver. receiver.0 ≡ receiver_in (M.ram ram.old) buffers.old caller.0) }
     ensures kept_ram { OnErr result (M.ram ram.new ≡ M.ram ram.old) }
@@ -107,7 +108,7 @@ pub fn send2<M: PhysMem>(
     ensures steps { Only (M.past ram.old) (M.past ram.new) (λ _ s.
         IsRxWriting (M.ram ram.old) (buffers_in buffers.old (receiver_in (M.ram ram.old) buffers.old caller.0)) s) }
 {
-    let message = check_send2(ram, buffers, manifest, caller)?;
+    let message = check_send2(ram, buffers, manifest, version, caller)?;
     deliver(ram, buffers, &message.from, message.receiver, message.size);
     Ok(message.receiver)
 }

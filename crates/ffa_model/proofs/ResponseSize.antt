@@ -3,19 +3,22 @@
 use Rattle.std.proofs.Common.{◌≡◌, ◌∙◌, ◌*◌, ◌++◌, List, [], ◌∷◌, length, refl, arith, length-append}
 use Rattle.std.specs.List.{flat_map}
 use Rattle.ffa_model.specs.declared.endpoint.Version.{Version}
-use Rattle.ffa_model.specs.declared.endpoint.Version.TheVariants.{Compact, V1_1}
+use Rattle.ffa_model.specs.declared.endpoint.Version.TheVariants.{Compact, V1_1, V1_2}
 use Rattle.ffa_model.specs.declared.transaction.Range.{Range}
-use Rattle.ffa_model.specs.DescriptorPlaces.{header_size}
+use Rattle.ffa_model.specs.DescriptorPlaces.{header_size, accesses_size}
 use Rattle.ffa_model.specs.ResponseBytes.{ResponseRecord, le, header_bytes, access_bytes, composite_bytes, range_bytes, response_bytes, response_size}
 
 length-header : (version : Version) (r : ResponseRecord) → length (header_bytes version r) ≡ header_size version
 unfolding le
 length-header Compact r = refl
 length-header V1_1 r = refl
+length-header V1_2 r = refl
 
-length-access : (version : Version) (r : ResponseRecord) → length (access_bytes version r) ≡ 16
+length-access : (version : Version) (r : ResponseRecord) → length (access_bytes version r) ≡ accesses_size version 1
 unfolding le
-length-access version r = refl
+length-access Compact r = refl
+length-access V1_1 r = refl
+length-access V1_2 r = refl
 
 pub length-composite : (ranges : List Range) → length (composite_bytes ranges) ≡ 16
 unfolding le

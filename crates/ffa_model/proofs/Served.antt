@@ -41,9 +41,13 @@ version-no-error : (known : Bool) → is_error (cond known (replies.Version 0x10
 version-no-error true = refl
 version-no-error false = refl
 
+later-no-error : (known : Bool) → is_error (cond known (replies.Version 0x10002) (replies.Version 0xFFFFFFFF)) ≡ false
+later-no-error true = refl
+later-no-error false = refl
+
 answer-no-error : (ffa : Ffa) (s : State) (word : ℕ) → is_error (version_answer ffa s word) ≡ false
 answer-no-error served.V1_1 s word = version-no-error _
-answer-no-error served.V1_2 s word = version-no-error _
+answer-no-error served.V1_2 s word = later-no-error _
 
 feature-no-error : (properties : ℕ) (served : Bool) → first_failure ((served, FunctionUnknown) ∷ []) ≡ None → is_error (cond served (success properties 0) (Error NotSupported)) ≡ false
 feature-no-error properties true none = refl

@@ -12,6 +12,7 @@ use Rattle.ffa_model.specs.declared.endpoint.Version.TheVariants.{V1_1}
 use Rattle.ffa_model.specs.declared.flaw.Flaw.{Flaw}
 use Rattle.ffa_model.specs.declared.refusal.Refusal.{Refusal}
 use Rattle.ffa_model.specs.declared.refusal.Refusal.TheVariants.{SenderIsAnother, ReceiverUnknown, ReceiverIsCaller, MessagesUnreceived, ReceiverBuffersMissing, ReceiverRxFull, ReceiverRxSmall, DescriptorMalformed, HandleUnknown, NotReceiver, TransactionSenderDiffers, TagDiffers, KindDiffers, AlreadyRetrieved, RightTooMuch, EndpointIsAnother, NotOffered, NotHeld, ZerosNotAllowed, BitsTaken, BitsNotTheSenders, BitsNotTheCallers}
+use Rattle.ffa_model.specs.declared.manifest.Ffa.{Ffa}
 use Rattle.ffa_model.specs.declared.rights.Kind.{Kind}
 use Rattle.ffa_model.specs.declared.rights.Kind.TheVariants.{Share, Lend, Donate}
 use Rattle.ffa_model.specs.declared.transaction.Receiver.{Receiver}
@@ -92,9 +93,9 @@ abbrev pub about_bytes : Versioned → Option Flaw → Option About → Refusal 
 about_bytes descriptor (Some flaw) named refusal = if_malformed refusal (about_field descriptor flaw)
 about_bytes descriptor None named refusal = named
 
-abbrev pub about_send : Kind → ℕ → Versioned → Refusal → Option About
-about_send kind endpoints descriptor refusal =
-    about_bytes descriptor (send_flaw kind descriptor) (option_and_then (λ r. named_by_send endpoints r refusal) (send_of kind descriptor)) refusal
+abbrev pub about_send : Ffa → Kind → ℕ → Versioned → Refusal → Option About
+about_send ffa kind endpoints descriptor refusal =
+    about_bytes descriptor (send_flaw ffa kind descriptor) (option_and_then (λ r. named_by_send endpoints r refusal) (send_of ffa kind descriptor)) refusal
 
 abbrev pub about_retrieve : Identifier → Versioned → Refusal → Option About
 about_retrieve e descriptor refusal =
@@ -143,7 +144,7 @@ about_bits endpoints n e call refusal = None
 
 -- ON A STATE
 abbrev pub about_sent : State → Kind → Transfer → Refusal → Option About
-about_sent s kind transfer refusal = where_whole s.buffers s.runner transfer (about_send kind (length s.parties) (descriptor_in s transfer.total) refusal)
+about_sent s kind transfer refusal = where_whole s.buffers s.runner transfer (about_send s.ffa kind (length s.parties) (descriptor_in s transfer.total) refusal)
 
 abbrev pub about_retrieved : State → Transfer → Refusal → Option About
 about_retrieved s transfer refusal =

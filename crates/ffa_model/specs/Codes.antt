@@ -12,7 +12,7 @@ use Rattle.ffa_model.specs.declared.endpoint.Region.{Region}
 use Rattle.ffa_model.specs.declared.endpoint.Version.{Version}
 use Rattle.ffa_model.specs.declared.manifest.Ffa.{Ffa}
 use Rattle.ffa_model.specs.declared.manifest.Ffa.TheVariants as served
-use Rattle.ffa_model.specs.declared.endpoint.Version.TheVariants.{Compact, V1_1}
+use Rattle.ffa_model.specs.declared.endpoint.Version.TheVariants.{Compact, V1_1, V1_2}
 use Rattle.ffa_model.specs.declared.rights.Data.{Data}
 use Rattle.ffa_model.specs.declared.rights.Data.TheVariants.{Ro, Rw}
 use Rattle.ffa_model.specs.declared.rights.Rights.{Rights}
@@ -96,20 +96,24 @@ work_from-by_of (Request by) = refl
 abbrev pub coded_work : Coded Work
 coded_work = code_by (Option ℕ) (coded_option coded_ℕ) by_of work_from work_from-by_of
 
-abbrev pub is_compact : Version → Bool
-is_compact Compact = true
-is_compact V1_1 = false
+-- by whether it has access descriptors of 32 bytes, except the compact form
+abbrev pub form_code : Version → Option Bool
+form_code Compact = None
+form_code V1_1 = Some false
+form_code V1_2 = Some true
 
-abbrev pub version_from : Bool → Version
-version_from true = Compact
-version_from false = V1_1
+abbrev pub version_from : Option Bool → Version
+version_from None = Compact
+version_from (Some false) = V1_1
+version_from (Some true) = V1_2
 
-abbrev pub version_from-is_compact : (v : Version) → version_from (is_compact v) ≡ v
-version_from-is_compact Compact = refl
-version_from-is_compact V1_1 = refl
+abbrev pub version_from-form_code : (v : Version) → version_from (form_code v) ≡ v
+version_from-form_code Compact = refl
+version_from-form_code V1_1 = refl
+version_from-form_code V1_2 = refl
 
 abbrev pub coded_version : Coded Version
-coded_version = code_by Bool coded_bool is_compact version_from version_from-is_compact
+coded_version = code_by (Option Bool) (coded_option coded_bool) form_code version_from version_from-form_code
 
 abbrev pub serves_1_1 : Ffa → Bool
 serves_1_1 served.V1_1 = true

@@ -3,7 +3,7 @@
 use Rattle.byteorder.specs.Endian.{little_from}
 use Rattle.std.specs.Prelude.{◌≡◌, ◌≤◌, ℕ, ◌+◌, ◌*◌, ◌%◌, ◌==◌, Bool, true, ◌&&◌, nat_le, List, length, slice_index, Option, Some, None, if◌then◌else◌}
 use Rattle.ffa_model.specs.declared.endpoint.Version.{Version}
-use Rattle.ffa_model.specs.declared.endpoint.Version.TheVariants.{Compact, V1_1}
+use Rattle.ffa_model.specs.declared.endpoint.Version.TheVariants.{Compact, V1_2}
 use Rattle.ffa_model.specs.declared.rights.Data.{Data}
 use Rattle.ffa_model.specs.declared.rights.Data.TheVariants.{Ro, Rw}
 use Rattle.ffa_model.specs.declared.rights.Kind.{Kind}
@@ -34,7 +34,7 @@ in_version version bytes = record { version = version; bytes = bytes }
 -- (`header_bytes` of ResponseBytes) know its form
 abbrev pub header_size : Version → ℕ
 header_size Compact = 32
-header_size V1_1 = 48
+header_size version = 48
 
 abbrev pub sender_field : Versioned → ℕ
 sender_field descriptor = u16_at descriptor.bytes 0
@@ -52,10 +52,15 @@ handle_field descriptor = u64_at descriptor.bytes 8
 abbrev pub tag_field : Versioned → ℕ
 tag_field descriptor = u64_at descriptor.bytes 16
 
--- what stands at 24: the size of an access descriptor, 16, where the header tells it; else 0, which is reserved
+-- the size of so many access descriptors
+abbrev pub accesses_size : Version → ℕ → ℕ
+accesses_size V1_2 count = 32 * count
+accesses_size version count = 16 * count
+
+-- what stands at 24: the size of an access descriptor, where the header tells it; else 0, which is reserved
 abbrev pub told_access_size : Version → ℕ
 told_access_size Compact = 0
-told_access_size V1_1 = 16
+told_access_size version = accesses_size version 1
 
 abbrev pub receiver_count : Versioned → ℕ
 receiver_count descriptor = u32_at descriptor.bytes 28
@@ -63,14 +68,14 @@ receiver_count descriptor = u32_at descriptor.bytes 28
 -- where the access descriptors begin
 abbrev pub array_in : Version → List ℕ → ℕ
 array_in Compact bytes = 32
-array_in V1_1 bytes = u32_at bytes 32
+array_in version bytes = u32_at bytes 32
 
 abbrev pub array_place : Versioned → ℕ
 array_place descriptor = array_in descriptor.version descriptor.bytes
 
 -- the place of access descriptor i
 abbrev pub access_place : Versioned → ℕ → ℕ
-access_place descriptor i = array_place descriptor + 16 * i
+access_place descriptor i = array_place descriptor + accesses_size descriptor.version i
 
 abbrev pub array_end : Versioned → ℕ
 array_end descriptor = access_place descriptor (receiver_count descriptor)
@@ -78,9 +83,9 @@ array_end descriptor = access_place descriptor (receiver_count descriptor)
 -- the bytes behind the array's place, which are reserved
 abbrev pub is_rest_zero : Version → List ℕ → Bool
 is_rest_zero Compact bytes = true
-is_rest_zero V1_1 bytes = (u32_at bytes 36 == 0) && (u64_at bytes 40 == 0)
+is_rest_zero version bytes = (u32_at bytes 36 == 0) && (u64_at bytes 40 == 0)
 
--- access descriptors of 16 bytes stand behind the header, and all lie inside the bytes
+-- access descriptors stand behind the header, and all lie inside the bytes
 pub record IsHeader (descriptor : Versioned) : Type 0 where
   pub whole : header_size descriptor.version ≤ length descriptor.bytes
   pub told : u32_at descriptor.bytes 24 ≡ told_access_size descriptor.version
@@ -111,8 +116,12 @@ access_flags_field bytes at = byte bytes (at + 3)
 abbrev pub composite_field : List ℕ → ℕ → ℕ
 composite_field bytes at = u32_at bytes (at + 4)
 
-abbrev pub access_reserved_field : List ℕ → ℕ → ℕ
-access_reserved_field bytes at = u64_at bytes (at + 8)
+-- whether the bytes behind the composite's place are 0, which are reserved; in FF-A 1.2 the first 16 of them are the
+-- implementation's
+abbrev pub is_access_rest_zero : Version → List ℕ → ℕ → Bool
+is_access_rest_zero V1_2 bytes at =
+    (u64_at bytes (at + 8) == 0) && (u64_at bytes (at + 16) == 0) && (u64_at bytes (at + 24) == 0)
+is_access_rest_zero version bytes at = u64_at bytes (at + 8) == 0
 
 -- THE COMPOSITE: its place as the first access descriptor tells it, how many ranges it has, and the place of range i
 abbrev pub composite_place : Versioned → ℕ

@@ -13,10 +13,11 @@ use Rattle.ffa_model.specs.declared.flaw.RangeFlaw.TheVariants.{Empty, Unaligned
 use Rattle.ffa_model.specs.declared.flaw.RetrieveFlaw.TheVariants.{Attributes as AskedAttributes, Flags as AskedFlags, AccessCount, ReceiverIsAnother, DataPermission, InstructionPermission, PermissionsReserved, AccessFlags as AskedAccessFlags, CompositeTold, AccessReserved as AskedAccessReserved}
 use Rattle.ffa_model.specs.declared.flaw.RelinquishFlaw.TheVariants.{Short as RelinquishShort, Flags as RelinquishFlags, EndpointCount}
 use Rattle.ffa_model.specs.declared.limits.TheConstants.{MOST_RANGES}
+use Rattle.ffa_model.specs.declared.manifest.Ffa.{Ffa}
 use Rattle.ffa_model.specs.declared.rights.Kind.{Kind}
 use Rattle.ffa_model.specs.Bits.{bits}
-use Rattle.ffa_model.specs.DescriptorPlaces.{Versioned, u32_at, u64_at, header_size, told_access_size, is_rest_zero, sender_field, attributes_field, flags_field, handle_field, receiver_count, array_place, array_end, access_place, endpoint_field, permissions_field, access_flags_field, composite_field, access_reserved_field, composite_place, total_field, range_count, range_place, normal_memory}
-use Rattle.ffa_model.specs.SendDescriptor.{attributes_of, most_flags, most_receivers, is_grant, is_named, receivers_in, are_apart, range_in, range_end, ranges_in, page_total}
+use Rattle.ffa_model.specs.DescriptorPlaces.{Versioned, u32_at, u64_at, header_size, told_access_size, is_rest_zero, sender_field, attributes_field, flags_field, handle_field, receiver_count, array_place, array_end, access_place, endpoint_field, permissions_field, access_flags_field, composite_field, is_access_rest_zero, composite_place, total_field, range_count, range_place, normal_memory}
+use Rattle.ffa_model.specs.SendDescriptor.{flags_but_type, is_attributes, most_flags, most_receivers, is_grant, is_named, receivers_in, are_apart, range_in, range_end, ranges_in, page_total}
 use Rattle.ffa_model.specs.RetrieveDescriptor.{asked_permissions}
 
 -- a condition, and the flaw where it fails
@@ -42,10 +43,10 @@ header_flaw descriptor =
 
 -- OF A SEND of this kind, behind its header: the header's fields, the access descriptors one by one, the composite, its ranges
 -- one by one, and their sum
-unfoldable pub send_header_flaw : Kind → Versioned → Option Flaw
-send_header_flaw kind descriptor =
-    first_broken ((attributes_field descriptor == attributes_of kind (receiver_count descriptor), Send Attributes)
-    ∷ (nat_le (flags_field descriptor) (most_flags kind), Send Flags)
+unfoldable pub send_header_flaw : Ffa → Kind → Versioned → Option Flaw
+send_header_flaw ffa kind descriptor =
+    first_broken ((is_attributes ffa kind (receiver_count descriptor) (attributes_field descriptor), Send Attributes)
+    ∷ (nat_le (flags_but_type ffa kind (flags_field descriptor)) (most_flags kind), Send Flags)
     ∷ (handle_field descriptor == 0, Send Handle)
     ∷ (nat_le 1 (receiver_count descriptor), Send NoReceiver)
     ∷ (nat_le (receiver_count descriptor) (most_receivers kind), Send ManyReceivers)
@@ -57,7 +58,7 @@ access_flaw kind descriptor i =
     first_broken ((is_grant kind (permissions_field descriptor.bytes (access_place descriptor i)), Access i Permissions)
     ∷ (access_flags_field descriptor.bytes (access_place descriptor i) == 0, Access i AccessFlags)
     ∷ (composite_field descriptor.bytes (access_place descriptor i) == composite_place descriptor, Access i OtherComposite)
-    ∷ (access_reserved_field descriptor.bytes (access_place descriptor i) == 0, Access i AccessReserved)
+    ∷ (is_access_rest_zero descriptor.version descriptor.bytes (access_place descriptor i), Access i AccessReserved)
     ∷ (not (endpoint_field descriptor.bytes (access_place descriptor i) == sender_field descriptor), Access i ReceiverIsSender)
     ∷ (not (is_named (endpoint_field descriptor.bytes (access_place descriptor i)) (receivers_in descriptor i)), Access i ReceiverTwice)
     ∷ [])
@@ -87,10 +88,10 @@ unfoldable pub total_flaw : Versioned → Option Flaw
 total_flaw descriptor = first_broken ((page_total (ranges_in descriptor (range_count descriptor)) == total_field descriptor, Composite Total) ∷ [])
 
 -- the first condition of a send descriptor of this kind that the bytes break
-unfoldable pub send_flaw : Kind → Versioned → Option Flaw
-send_flaw kind descriptor =
+unfoldable pub send_flaw : Ffa → Kind → Versioned → Option Flaw
+send_flaw ffa kind descriptor =
     option_or (header_flaw descriptor)
-    (option_or (send_header_flaw kind descriptor)
+    (option_or (send_header_flaw ffa kind descriptor)
     (option_or (first_of (receiver_count descriptor) (access_flaw kind descriptor))
     (option_or (composite_flaw descriptor)
     (option_or (first_of (range_count descriptor) (range_flaw descriptor)) (total_flaw descriptor)))))
@@ -111,7 +112,7 @@ asked_access_flaw endpoint descriptor =
     ∷ (bits 7 4 (asked_permissions descriptor) == 0, Retrieve PermissionsReserved)
     ∷ (access_flags_field descriptor.bytes (array_place descriptor) == 0, Retrieve AskedAccessFlags)
     ∷ (composite_field descriptor.bytes (array_place descriptor) == 0, Retrieve CompositeTold)
-    ∷ (access_reserved_field descriptor.bytes (array_place descriptor) == 0, Retrieve AskedAccessReserved)
+    ∷ (is_access_rest_zero descriptor.version descriptor.bytes (array_place descriptor), Retrieve AskedAccessReserved)
     ∷ [])
 
 unfoldable pub retrieve_flaw : ℕ → Versioned → Option Flaw

@@ -2,7 +2,7 @@
 -- Where the field stands of which a condition speaks, its first byte and how many bytes it has, and what stands there.
 use Rattle.std.specs.Prelude.{ℕ, ◌+◌, ◌*◌, ◌==◌, nat_le, List, length, Option, Some, None, if◌then◌else◌}
 use Rattle.ffa_model.specs.declared.endpoint.Version.{Version}
-use Rattle.ffa_model.specs.declared.endpoint.Version.TheVariants.{Compact, V1_1}
+use Rattle.ffa_model.specs.declared.endpoint.Version.TheVariants.{Compact, V1_1, V1_2}
 use Rattle.ffa_model.specs.declared.flaw.FieldPlace.{FieldPlace}
 use Rattle.ffa_model.specs.declared.flaw.Flaw.{Flaw}
 use Rattle.ffa_model.specs.declared.flaw.Flaw.TheVariants.{Header, Send, Access, Composite, Range, Retrieve, Relinquish}
@@ -20,7 +20,7 @@ use Rattle.ffa_model.specs.declared.flaw.RetrieveFlaw.{RetrieveFlaw}
 use Rattle.ffa_model.specs.declared.flaw.RetrieveFlaw.TheVariants.{Attributes as AskedAttributes, Flags as AskedFlags, AccessCount, ReceiverIsAnother, DataPermission, InstructionPermission, PermissionsReserved, AccessFlags as AskedAccessFlags, CompositeTold, AccessReserved as AskedAccessReserved}
 use Rattle.ffa_model.specs.declared.flaw.RelinquishFlaw.{RelinquishFlaw}
 use Rattle.ffa_model.specs.declared.flaw.RelinquishFlaw.TheVariants.{Short as RelinquishShort, Flags as RelinquishFlags, EndpointCount}
-use Rattle.ffa_model.specs.DescriptorPlaces.{Versioned, byte, u16_at, u32_at, u64_at, header_size}
+use Rattle.ffa_model.specs.DescriptorPlaces.{Versioned, byte, u16_at, u32_at, u64_at, header_size, accesses_size}
 
 abbrev pub field : ℕ → ℕ → FieldPlace
 field first size = record { first = first; size = size }
@@ -32,7 +32,7 @@ told_place bytes at = if nat_le (at + 4) (length bytes) then u32_at bytes at els
 
 abbrev pub told_array_in : Version → List ℕ → ℕ
 told_array_in Compact bytes = 32
-told_array_in V1_1 bytes = told_place bytes 32
+told_array_in version bytes = told_place bytes 32
 
 abbrev pub told_array : Versioned → ℕ
 told_array descriptor = told_array_in descriptor.version descriptor.bytes
@@ -40,10 +40,12 @@ told_array descriptor = told_array_in descriptor.version descriptor.bytes
 abbrev pub told_composite : Versioned → ℕ
 told_composite descriptor = told_place descriptor.bytes (told_array descriptor + 4)
 
--- how many access descriptors there are, and in version 1.1, in the next bytes, where they begin
+-- how many access descriptors there are; except in the compact form, in the next bytes, where they begin; and in FF-A 1.2, in the
+-- bytes before, which size each has
 abbrev pub array_field : Version → FieldPlace
 array_field Compact = field 28 4
 array_field V1_1 = field 28 8
+array_field V1_2 = field 24 12
 
 -- a header that is short is a field of its own, of all its bytes
 abbrev pub header_flaw_place : Version → HeaderFlaw → FieldPlace
@@ -61,14 +63,19 @@ send_flaw_place Handle = field 8 8
 send_flaw_place NoReceiver = field 28 4
 send_flaw_place ManyReceivers = field 28 4
 
+-- the end of the access descriptor at a place
+abbrev pub access_rest_field : Version → ℕ → FieldPlace
+access_rest_field V1_2 at = field (at + 8) 24
+access_rest_field version at = field (at + 8) 8
+
 -- by the access descriptor's place
-abbrev pub access_flaw_place : ℕ → AccessFlaw → FieldPlace
-access_flaw_place at Permissions = field (at + 2) 1
-access_flaw_place at AccessFlags = field (at + 3) 1
-access_flaw_place at OtherComposite = field (at + 4) 4
-access_flaw_place at AccessReserved = field (at + 8) 8
-access_flaw_place at ReceiverIsSender = field at 2
-access_flaw_place at ReceiverTwice = field at 2
+abbrev pub access_flaw_place : Version → ℕ → AccessFlaw → FieldPlace
+access_flaw_place version at Permissions = field (at + 2) 1
+access_flaw_place version at AccessFlags = field (at + 3) 1
+access_flaw_place version at OtherComposite = field (at + 4) 4
+access_flaw_place version at AccessReserved = access_rest_field version at
+access_flaw_place version at ReceiverIsSender = field at 2
+access_flaw_place version at ReceiverTwice = field at 2
 
 -- by the place of the array, whose first access descriptor tells that of the composite, and by the composite's
 abbrev pub composite_flaw_place : ℕ → ℕ → CompositeFlaw → FieldPlace
@@ -90,17 +97,17 @@ range_flaw_place at RangeReserved = field (at + 12) 4
 range_flaw_place at Overlap = field at 12
 
 -- by the place of the one access descriptor
-abbrev pub retrieve_flaw_place : ℕ → RetrieveFlaw → FieldPlace
-retrieve_flaw_place array AskedAttributes = field 2 2
-retrieve_flaw_place array AskedFlags = field 4 4
-retrieve_flaw_place array AccessCount = field 28 4
-retrieve_flaw_place array ReceiverIsAnother = field array 2
-retrieve_flaw_place array DataPermission = field (array + 2) 1
-retrieve_flaw_place array InstructionPermission = field (array + 2) 1
-retrieve_flaw_place array PermissionsReserved = field (array + 2) 1
-retrieve_flaw_place array AskedAccessFlags = field (array + 3) 1
-retrieve_flaw_place array CompositeTold = field (array + 4) 4
-retrieve_flaw_place array AskedAccessReserved = field (array + 8) 8
+abbrev pub retrieve_flaw_place : Version → ℕ → RetrieveFlaw → FieldPlace
+retrieve_flaw_place version array AskedAttributes = field 2 2
+retrieve_flaw_place version array AskedFlags = field 4 4
+retrieve_flaw_place version array AccessCount = field 28 4
+retrieve_flaw_place version array ReceiverIsAnother = field array 2
+retrieve_flaw_place version array DataPermission = field (array + 2) 1
+retrieve_flaw_place version array InstructionPermission = field (array + 2) 1
+retrieve_flaw_place version array PermissionsReserved = field (array + 2) 1
+retrieve_flaw_place version array AskedAccessFlags = field (array + 3) 1
+retrieve_flaw_place version array CompositeTold = field (array + 4) 4
+retrieve_flaw_place version array AskedAccessReserved = access_rest_field version array
 
 -- a relinquish that is short is a field of its own, of all its bytes
 abbrev pub relinquish_flaw_place : RelinquishFlaw → FieldPlace
@@ -112,10 +119,10 @@ relinquish_flaw_place EndpointCount = field 12 4
 abbrev pub flaw_place : Versioned → Flaw → FieldPlace
 flaw_place descriptor (Header flaw) = header_flaw_place descriptor.version flaw
 flaw_place descriptor (Send flaw) = send_flaw_place flaw
-flaw_place descriptor (Access i flaw) = access_flaw_place (told_array descriptor + 16 * i) flaw
+flaw_place descriptor (Access i flaw) = access_flaw_place descriptor.version (told_array descriptor + accesses_size descriptor.version i) flaw
 flaw_place descriptor (Composite flaw) = composite_flaw_place (told_array descriptor) (told_composite descriptor) flaw
 flaw_place descriptor (Range i flaw) = range_flaw_place (told_composite descriptor + 16 + 16 * i) flaw
-flaw_place descriptor (Retrieve flaw) = retrieve_flaw_place (told_array descriptor) flaw
+flaw_place descriptor (Retrieve flaw) = retrieve_flaw_place descriptor.version (told_array descriptor) flaw
 flaw_place descriptor (Relinquish flaw) = relinquish_flaw_place flaw
 
 -- the number of 1, 2, 4 or 8 bytes at a place

@@ -18,10 +18,11 @@ use Rattle.ffa_model.specs.declared.flaw.RetrieveFlaw.TheVariants.{Attributes as
 use Rattle.ffa_model.specs.declared.flaw.RelinquishFlaw.{RelinquishFlaw}
 use Rattle.ffa_model.specs.declared.flaw.RelinquishFlaw.TheVariants.{Short as RelinquishShort, Flags as RelinquishFlags, EndpointCount}
 use Rattle.ffa_model.specs.declared.limits.TheConstants.{MOST_RANGES}
+use Rattle.ffa_model.specs.declared.manifest.Ffa.{Ffa}
 use Rattle.ffa_model.specs.declared.rights.Kind.{Kind}
 use Rattle.ffa_model.specs.Bits.{bits}
-use Rattle.ffa_model.specs.DescriptorPlaces.{Versioned, u32_at, u64_at, header_size, told_access_size, is_rest_zero, sender_field, attributes_field, flags_field, handle_field, receiver_count, array_place, array_end, access_place, endpoint_field, permissions_field, access_flags_field, composite_field, access_reserved_field, composite_place, total_field, range_count, range_place, normal_memory}
-use Rattle.ffa_model.specs.SendDescriptor.{attributes_of, most_flags, most_receivers, IsGrant, AreApart, range_in, range_end, ranges_in, page_total}
+use Rattle.ffa_model.specs.DescriptorPlaces.{Versioned, u32_at, u64_at, header_size, told_access_size, is_rest_zero, sender_field, attributes_field, flags_field, handle_field, receiver_count, array_place, array_end, access_place, endpoint_field, permissions_field, access_flags_field, composite_field, is_access_rest_zero, composite_place, total_field, range_count, range_place, normal_memory}
+use Rattle.ffa_model.specs.SendDescriptor.{flags_but_type, is_attributes, most_flags, most_receivers, IsGrant, AreApart, range_in, range_end, ranges_in, page_total}
 use Rattle.ffa_model.specs.RetrieveDescriptor.{asked_permissions}
 
 -- `IsHeader`
@@ -34,13 +35,13 @@ HeaderBreaks descriptor ArrayOutside = length descriptor.bytes < array_end descr
 HeaderBreaks descriptor HeaderReserved = is_rest_zero descriptor.version descriptor.bytes ≡ false
 
 -- `Send`, of the header's fields
-abbrev pub SendHeaderBreaks : Kind → Versioned → SendFlaw → Type 0
-SendHeaderBreaks kind descriptor Attributes =
-    attributes_field descriptor ≢ attributes_of kind (receiver_count descriptor)
-SendHeaderBreaks kind descriptor Flags = most_flags kind < flags_field descriptor
-SendHeaderBreaks kind descriptor Handle = handle_field descriptor ≢ 0
-SendHeaderBreaks kind descriptor NoReceiver = receiver_count descriptor < 1
-SendHeaderBreaks kind descriptor ManyReceivers = most_receivers kind < receiver_count descriptor
+abbrev pub SendHeaderBreaks : Ffa → Kind → Versioned → SendFlaw → Type 0
+SendHeaderBreaks ffa kind descriptor Attributes =
+    is_attributes ffa kind (receiver_count descriptor) (attributes_field descriptor) ≡ false
+SendHeaderBreaks ffa kind descriptor Flags = most_flags kind < flags_but_type ffa kind (flags_field descriptor)
+SendHeaderBreaks ffa kind descriptor Handle = handle_field descriptor ≢ 0
+SendHeaderBreaks ffa kind descriptor NoReceiver = receiver_count descriptor < 1
+SendHeaderBreaks ffa kind descriptor ManyReceivers = most_receivers kind < receiver_count descriptor
 
 -- `IsAccess` and `distinct`, of access descriptor i
 abbrev pub AccessBreaks : Kind → Versioned → ℕ → AccessFlaw → Type 0
@@ -49,7 +50,7 @@ AccessBreaks kind descriptor i Permissions =
 AccessBreaks kind descriptor i AccessFlags = access_flags_field descriptor.bytes (access_place descriptor i) ≢ 0
 AccessBreaks kind descriptor i OtherComposite =
     composite_field descriptor.bytes (access_place descriptor i) ≢ composite_place descriptor
-AccessBreaks kind descriptor i AccessReserved = access_reserved_field descriptor.bytes (access_place descriptor i) ≢ 0
+AccessBreaks kind descriptor i AccessReserved = is_access_rest_zero descriptor.version descriptor.bytes (access_place descriptor i) ≡ false
 AccessBreaks kind descriptor i ReceiverIsSender =
     endpoint_field descriptor.bytes (access_place descriptor i) ≡ sender_field descriptor
 AccessBreaks kind descriptor i ReceiverTwice =
@@ -75,14 +76,14 @@ RangeBreaks descriptor i RangeReserved = u32_at descriptor.bytes (range_place de
 RangeBreaks descriptor i Overlap = (j : ℕ) × (j < i) × (AreApart (range_in descriptor i) (range_in descriptor j) → ⊥)
 
 -- The bytes break this condition of a send descriptor of this kind
-abbrev pub SendBreaks : Kind → Versioned → Flaw → Type 0
-SendBreaks kind descriptor (Header flaw) = HeaderBreaks descriptor flaw
-SendBreaks kind descriptor (Send flaw) = SendHeaderBreaks kind descriptor flaw
-SendBreaks kind descriptor (Access i flaw) = (i < receiver_count descriptor) × AccessBreaks kind descriptor i flaw
-SendBreaks kind descriptor (Composite flaw) = CompositeBreaks descriptor flaw
-SendBreaks kind descriptor (Range i flaw) = (i < range_count descriptor) × RangeBreaks descriptor i flaw
-SendBreaks kind descriptor (Retrieve flaw) = ⊥
-SendBreaks kind descriptor (Relinquish flaw) = ⊥
+abbrev pub SendBreaks : Ffa → Kind → Versioned → Flaw → Type 0
+SendBreaks ffa kind descriptor (Header flaw) = HeaderBreaks descriptor flaw
+SendBreaks ffa kind descriptor (Send flaw) = SendHeaderBreaks ffa kind descriptor flaw
+SendBreaks ffa kind descriptor (Access i flaw) = (i < receiver_count descriptor) × AccessBreaks kind descriptor i flaw
+SendBreaks ffa kind descriptor (Composite flaw) = CompositeBreaks descriptor flaw
+SendBreaks ffa kind descriptor (Range i flaw) = (i < range_count descriptor) × RangeBreaks descriptor i flaw
+SendBreaks ffa kind descriptor (Retrieve flaw) = ⊥
+SendBreaks ffa kind descriptor (Relinquish flaw) = ⊥
 
 -- `Retrieve`, behind the header
 abbrev pub AskedBreaks : ℕ → Versioned → RetrieveFlaw → Type 0
@@ -97,7 +98,7 @@ AskedBreaks endpoint descriptor PermissionsReserved = bits 7 4 (asked_permission
 AskedBreaks endpoint descriptor AskedAccessFlags = access_flags_field descriptor.bytes (array_place descriptor) ≢ 0
 AskedBreaks endpoint descriptor CompositeTold = composite_field descriptor.bytes (array_place descriptor) ≢ 0
 AskedBreaks endpoint descriptor AskedAccessReserved =
-    access_reserved_field descriptor.bytes (array_place descriptor) ≢ 0
+    is_access_rest_zero descriptor.version descriptor.bytes (array_place descriptor) ≡ false
 
 -- The bytes break this condition of a retrieve descriptor for this endpoint
 abbrev pub RetrieveBreaks : ℕ → Versioned → Flaw → Type 0

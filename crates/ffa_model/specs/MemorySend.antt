@@ -140,7 +140,7 @@ descriptor_in s total = in_version (version_of s s.runner) (take total (tx_bytes
 
 -- what they say, and the state after the send
 abbrev pub send_read : State → Kind → ℕ → Option SendRecord
-send_read s kind total = send_of kind (descriptor_in s total)
+send_read s kind total = send_of s.ffa kind (descriptor_in s total)
 
 -- what the runner's send opens
 abbrev pub transaction_sent : State → Kind → SendRecord → Transaction

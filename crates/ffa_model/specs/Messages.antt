@@ -5,15 +5,17 @@ use Rattle.std.specs.Prelude.{ℕ, ◌+◌, ◌==◌, Bool, not, nat_le, List, [
 use Rattle.std.specs.Option.{option_map_or}
 use Rattle.ffa_model.specs.declared.refusal.Refusal.{Refusal}
 use Rattle.ffa_model.specs.declared.refusal.Refusal.TheVariants.{BuffersMissing, FlagsReserved, HeaderReserved, SenderIsAnother, ReceiverUnknown, ReceiverIsCaller, MessageInHeader, MessageEmpty, MessageTooLong, MessagesUnsent, MessagesUnreceived, ReceiverBuffersMissing, ReceiverRxFull, ReceiverRxSmall}
+use Rattle.ffa_model.specs.declared.endpoint.Version.{Version}
+use Rattle.ffa_model.specs.declared.endpoint.Version.TheVariants.{V1_2}
 use Rattle.ffa_model.specs.Numbers.{Identifier}
-use Rattle.ffa_model.specs.State.{State, Party, Buffers, buffers_of, is_known_among, has_property}
+use Rattle.ffa_model.specs.State.{State, Party, Buffers, buffers_of, is_known_among, has_property, version_of}
 use Rattle.ffa_model.specs.Ram.{number_in}
 use Rattle.ffa_model.specs.Memory.{run_bytes}
 use Rattle.ffa_model.specs.Buffers.{filled, is_full, buffers_in, room_of}
 use Rattle.ffa_model.specs.Notifications.{manager_class, message_bits, notifications_of, with_notifications, with_pending}
 use Rattle.ffa_model.specs.Calls.{Service, success}
 
--- the header of a message, in its first 20 bytes
+-- what is read of the header of a message, in its first 20 bytes
 pub record MessageHeader : Type 0 where
   pub flags : ℕ
   pub reserved : ℕ
@@ -33,16 +35,22 @@ header_in tx =
       size = number_in tx 16 4;
     }
 
--- the checks of FFA_MSG_SEND2 in order, for a caller among these endpoints and their buffers
-abbrev pub send2_guards : List Party → List (Option Buffers) → Identifier → MessageHeader → List (Bool × Refusal)
-send2_guards parties buffers caller m =
+-- how many bytes the header has, by its sender's form: in FF-A 1.2 a reserved word and a UUID follow, which the manager doesn't
+-- read
+abbrev pub message_header_size : Version → ℕ
+message_header_size V1_2 = 40
+message_header_size version = 20
+
+-- the checks of FFA_MSG_SEND2 in order, for a caller of this form among these endpoints and their buffers
+abbrev pub send2_guards : List Party → List (Option Buffers) → Version → Identifier → MessageHeader → List (Bool × Refusal)
+send2_guards parties buffers version caller m =
     (is_some (buffers_in buffers caller), BuffersMissing)
     ∷ (m.flags == 0, FlagsReserved)
     ∷ (m.reserved == 0, HeaderReserved)
     ∷ (m.sender == caller, SenderIsAnother)
     ∷ (is_known_among (length parties) m.receiver, ReceiverUnknown)
     ∷ (not (m.receiver == caller), ReceiverIsCaller)
-    ∷ (nat_le 20 m.offset, MessageInHeader)
+    ∷ (nat_le (message_header_size version) m.offset, MessageInHeader)
     ∷ (not (m.size == 0), MessageEmpty)
     ∷ (nat_le (m.offset + m.size) (room_of (buffers_in buffers caller)), MessageTooLong)
     ∷ (has_property parties caller 2, MessagesUnsent)
@@ -67,7 +75,7 @@ delivered s receiver message =
 abbrev pub msg_send2 : State → Service
 msg_send2 s =
     record {
-      guards = send2_guards s.parties s.buffers s.runner (header_in (tx_bytes s s.runner));
+      guards = send2_guards s.parties s.buffers (version_of s s.runner) s.runner (header_in (tx_bytes s s.runner));
       state = delivered s (header_in (tx_bytes s s.runner)).receiver (message_in (tx_bytes s s.runner));
       reply = success 0 0;
     }

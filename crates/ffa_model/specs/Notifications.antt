@@ -1,10 +1,13 @@
 -- SPDX-License-Identifier: MIT OR Apache-2.0
 -- Notifications (DEN0077A, 10): who has bitmaps, which bits are bound to whom, and which are pending.
-use Rattle.std.specs.Prelude.{ℕ, ◌==◌, Bool, true, false, not, ◌&&◌, ◌||◌, nat_le, List, [], ◌∷◌, length, map, slice_index, slice_index_or, slice_set, if◌then◌else◌}
+use Rattle.std.specs.Prelude.{ℕ, ◌==◌, Bool, true, false, not, ◌&&◌, ◌||◌, nat_le, nat_lt, List, [], ◌∷◌, length, map, slice_index, slice_index_or, slice_set, if◌then◌else◌}
 use Rattle.std.specs.Ordering.{nat_cmp}
 use Rattle.std.specs.Cmp.Lexicographic.{slice_cmp}
 use Rattle.std.specs.List.{list_any, list_all}
 use Rattle.std.specs.FinSet as finite_set
+use Rattle.ffa_model.specs.declared.limits.TheConstants.{MOST_PROCESSORS}
+use Rattle.ffa_model.specs.declared.manifest.Ffa.{Ffa}
+use Rattle.ffa_model.specs.declared.manifest.Ffa.TheVariants.{V1_1, V1_2}
 use Rattle.ffa_model.specs.declared.refusal.Refusal.{Refusal}
 use Rattle.ffa_model.specs.declared.refusal.Refusal.TheVariants.{NotNormalWorld, EndpointNotNormalWorld, ContextCount, BitmapsExist, BitmapsMissing, BitsPending, ReceiverIsAnother, SenderUnknown, SenderIsCaller, FlagsReserved, BitsNone, BitsTaken, BitsNotTheSenders, SenderIsAnother, ReceiverUnknown, ReceiverIsCaller, BitsNotTheCallers, ContextUnknown, ClassesUnknown}
 use Rattle.ffa_model.specs.declared.call.NotificationBits.{NotificationBits}
@@ -117,12 +120,22 @@ message_bits = 0 ∷ []
 
 -- the checks of each call in order, by a caller among this many endpoints
 
+-- how many execution contexts the normal world may have, and which of an endpoint's own there are: on a machine of FF-A 1.1
+-- one; on one of FF-A 1.2 a partition has one, and the normal world as many as there may be processors
+abbrev pub is_context_count : Ffa → ℕ → Bool
+is_context_count V1_1 contexts = contexts == 1
+is_context_count V1_2 contexts = nat_le 1 contexts && nat_le contexts MOST_PROCESSORS
+
+abbrev pub is_context : Ffa → Identifier → ℕ → Bool
+is_context V1_1 e context = context == 0
+is_context V1_2 e context = context == 0 || (e == 0 && nat_lt context MOST_PROCESSORS)
+
 -- FFA_NOTIFICATION_BITMAP_CREATE, for an endpoint with so many execution contexts
-abbrev pub create_guards : Notifications → Identifier → ℕ → ℕ → List (Bool × Refusal)
-create_guards n caller endpoint contexts =
+abbrev pub create_guards : Ffa → Notifications → Identifier → ℕ → ℕ → List (Bool × Refusal)
+create_guards ffa n caller endpoint contexts =
     (caller == 0, NotNormalWorld)
     ∷ (endpoint == 0, EndpointNotNormalWorld)
-    ∷ (contexts == 1, ContextCount)
+    ∷ (is_context_count ffa contexts, ContextCount)
     ∷ (not (has_bitmaps_in n 0), BitmapsExist)
     ∷ []
 
@@ -180,10 +193,10 @@ set_guards endpoints n caller its =
     ∷ []
 
 -- FFA_NOTIFICATION_GET, of a receiver in one of its execution contexts
-abbrev pub get_guards : Notifications → Identifier → Identifier → ℕ → ℕ → List (Bool × Refusal)
-get_guards n caller receiver context flags =
+abbrev pub get_guards : Ffa → Notifications → Identifier → Identifier → ℕ → ℕ → List (Bool × Refusal)
+get_guards ffa n caller receiver context flags =
     (receiver == caller, ReceiverIsAnother)
-    ∷ (context == 0, ContextUnknown)
+    ∷ (is_context ffa caller context, ContextUnknown)
     ∷ (nat_le flags 15, ClassesUnknown)
     ∷ (has_bitmaps_in n caller, BitmapsMissing)
     ∷ []
@@ -208,7 +221,7 @@ with_notifications s n = record s { bitmaps = n.bitmaps; bound = n.bound; pendin
 abbrev pub bitmap_create : State → ℕ → ℕ → Service
 bitmap_create s endpoint contexts =
     record {
-      guards = create_guards (notifications_of s) s.runner endpoint contexts;
+      guards = create_guards s.ffa (notifications_of s) s.runner endpoint contexts;
       state = with_notifications s (with_bitmaps (notifications_of s) 0);
       reply = success 0 0;
     }
@@ -248,7 +261,7 @@ notification_set s its =
 abbrev pub notification_get : State → Identifier → ℕ → ℕ → Service
 notification_get s receiver context flags =
     record {
-      guards = get_guards (notifications_of s) s.runner receiver context flags;
+      guards = get_guards s.ffa (notifications_of s) s.runner receiver context flags;
       state = with_notifications s (without_pending (notifications_of s) s.runner flags);
       reply = get_reply (notifications_of s) s.runner flags;
     }

@@ -66,7 +66,7 @@ setup =
 -- those of run states, and direct messages
 abbrev pub messages : List Function
 messages =
-    narrow FFA_MSG_WAIT (λ w. MsgWait)
+    narrow FFA_MSG_WAIT (λ w. MsgWait (w 2))
     ∷ narrow FFA_YIELD (λ w. Yield)
     ∷ narrow FFA_RUN (λ w. Run (high_endpoint (w 1)) (low_half (w 1)))
     ∷ wide FFA_MSG_SEND_DIRECT_REQ (λ w x. DirectRequest (direct_message w x))

@@ -4,13 +4,13 @@ use Rattle.std.specs.Prelude.{ℕ, ◌+◌, ◌*◌, Bool, if◌then◌else◌, 
 use Rattle.std.specs.List.{flat_map}
 use Rattle.byteorder.specs.Endian.{little_bytes}
 use Rattle.ffa_model.specs.declared.endpoint.Version.{Version}
-use Rattle.ffa_model.specs.declared.endpoint.Version.TheVariants.{Compact, V1_1}
+use Rattle.ffa_model.specs.declared.endpoint.Version.TheVariants.{Compact, V1_2}
 use Rattle.ffa_model.specs.declared.rights.Kind.{Kind}
 use Rattle.ffa_model.specs.declared.rights.Rights.{Rights}
 use Rattle.ffa_model.specs.declared.transaction.Range.{Range}
 use Rattle.ffa_model.specs.declared.descriptor.Response.{Response}
 use Rattle.ffa_model.specs.Numbers.{Identifier}
-use Rattle.ffa_model.specs.DescriptorPlaces.{header_size, told_access_size, data_code, exec_code, kind_code, normal_memory}
+use Rattle.ffa_model.specs.DescriptorPlaces.{header_size, accesses_size, told_access_size, data_code, exec_code, kind_code, normal_memory}
 use Rattle.ffa_model.specs.SendDescriptor.{page_total}
 
 -- what a response tells
@@ -47,20 +47,21 @@ le n x = little_bytes n x
 abbrev pub flags_of : Kind → Bool → ℕ
 flags_of kind zero = 8 * kind_code (Some kind) + (if zero then 1 else 0)
 
--- normal memory; bit 6 says that it is non-secure
-abbrev pub attributes_told : Bool → ℕ
-attributes_told normal = normal_memory + (if normal then 64 else 0)
+-- normal memory; bit 6 says that it is non-secure, and is reserved in the compact form
+abbrev pub attributes_told : Version → Bool → ℕ
+attributes_told Compact normal = normal_memory
+attributes_told version normal = normal_memory + (if normal then 64 else 0)
 
 -- the array's place, and zeros, where the header tells it
 abbrev pub rest_bytes : Version → List ℕ
 rest_bytes Compact = []
-rest_bytes V1_1 = le 4 48 ++ le 4 0 ++ le 8 0
+rest_bytes version = le 4 48 ++ le 4 0 ++ le 8 0
 
--- the header: one access descriptor of 16 bytes follows it. Its fields are those of DescriptorPlaces
+-- the header: one access descriptor follows it. Its fields are those of DescriptorPlaces
 abbrev pub header_bytes : Version → ResponseRecord → List ℕ
 header_bytes version response =
     le 2 response.sender
-    ++ le 2 (attributes_told response.normal)
+    ++ le 2 (attributes_told version response.normal)
     ++ le 4 (flags_of response.kind response.zero)
     ++ le 8 response.handle
     ++ le 8 response.tag
@@ -72,10 +73,15 @@ header_bytes version response =
 abbrev pub permissions_of : Rights → ℕ
 permissions_of right = data_code (Some right.level) + 4 * exec_code right.exec
 
+-- the end of the access descriptor
+abbrev pub access_rest_bytes : Version → List ℕ
+access_rest_bytes V1_2 = le 8 0 ++ le 8 0 ++ le 8 0
+access_rest_bytes version = le 8 0
+
 -- the access descriptor, with the composite right behind it
 abbrev pub access_bytes : Version → ResponseRecord → List ℕ
 access_bytes version response =
-    le 2 response.endpoint ++ permissions_of response.rights ∷ 0 ∷ [] ++ le 4 (header_size version + 16) ++ le 8 0
+    le 2 response.endpoint ++ permissions_of response.rights ∷ 0 ∷ [] ++ le 4 (header_size version + accesses_size version 1) ++ access_rest_bytes version
 
 abbrev pub composite_bytes : List Range → List ℕ
 composite_bytes ranges = le 4 (page_total ranges) ++ le 4 (length ranges) ++ le 8 0
@@ -89,4 +95,4 @@ response_bytes version r =
 
 -- how many they are
 abbrev pub response_size : Version → List Range → ℕ
-response_size version ranges = header_size version + 32 + 16 * length ranges
+response_size version ranges = header_size version + accesses_size version 1 + 16 + 16 * length ranges

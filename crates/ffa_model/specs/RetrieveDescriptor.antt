@@ -1,9 +1,9 @@
 -- SPDX-License-Identifier: MIT OR Apache-2.0
 -- Retrieve descriptors: which bytes ask for memory that was offered, and what they say.
-use Rattle.std.specs.Prelude.{◌≡◌, ◌≢◌, ◌⊎◌, ℕ, ◌*◌, ◌==◌, Bool, not, ◌&&◌, ◌||◌, Option, Some, None, if◌then◌else◌}
+use Rattle.std.specs.Prelude.{◌≡◌, ◌≢◌, ◌⊎◌, ℕ, ◌*◌, ◌==◌, Bool, true, not, ◌&&◌, ◌||◌, Option, Some, None, if◌then◌else◌}
 use Rattle.ffa_model.specs.declared.descriptor.RetrieveDesc.{RetrieveDesc}
 use Rattle.ffa_model.specs.Bits.{bits}
-use Rattle.ffa_model.specs.DescriptorPlaces.{Versioned, sender_field, attributes_field, flags_field, handle_field, tag_field, receiver_count, array_place, IsHeader, is_header, endpoint_field, permissions_field, access_flags_field, composite_field, access_reserved_field, data_code, data_of, kind_code, kind_of, normal_memory}
+use Rattle.ffa_model.specs.DescriptorPlaces.{Versioned, sender_field, attributes_field, flags_field, handle_field, tag_field, receiver_count, array_place, IsHeader, is_header, endpoint_field, permissions_field, access_flags_field, composite_field, is_access_rest_zero, data_code, data_of, kind_code, kind_of, normal_memory}
 
 -- the permissions that the one access descriptor asks for
 abbrev pub asked_permissions : Versioned → ℕ
@@ -19,7 +19,7 @@ pub record Retrieve (endpoint : ℕ) (descriptor : Versioned) (retrieve : Retrie
   pub no_more : bits 7 4 (asked_permissions descriptor) ≡ 0
   pub access_flags : access_flags_field descriptor.bytes (array_place descriptor) ≡ 0
   pub composite : composite_field descriptor.bytes (array_place descriptor) ≡ 0
-  pub access_reserved : access_reserved_field descriptor.bytes (array_place descriptor) ≡ 0
+  pub access_reserved : is_access_rest_zero descriptor.version descriptor.bytes (array_place descriptor) ≡ true
   pub sender : retrieve.sender.0 ≡ sender_field descriptor
   pub handle : retrieve.handle ≡ handle_field descriptor
   pub tag : retrieve.tag ≡ tag_field descriptor
@@ -54,7 +54,7 @@ is_retrieve_access endpoint descriptor =
     && (bits 7 4 (asked_permissions descriptor) == 0)
     && (access_flags_field descriptor.bytes (array_place descriptor) == 0)
     && (composite_field descriptor.bytes (array_place descriptor) == 0)
-    && (access_reserved_field descriptor.bytes (array_place descriptor) == 0)
+    && is_access_rest_zero descriptor.version descriptor.bytes (array_place descriptor)
 
 -- what a retrieve descriptor for this endpoint says, if the bytes are one
 unfoldable pub retrieve_of : ℕ → Versioned → Option RetrieveDesc

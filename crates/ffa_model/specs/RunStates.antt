@@ -11,11 +11,14 @@ use Rattle.ffa_model.specs.declared.call.Reply.{Reply}
 use Rattle.ffa_model.specs.declared.call.DirectMessage.{DirectMessage}
 use Rattle.ffa_model.specs.declared.call.Reply.TheVariants.{Passed, Scheduled}
 use Rattle.ffa_model.specs.declared.function.TheConstants.{FFA_RUN, FFA_MSG_WAIT, FFA_YIELD}
+use Rattle.ffa_model.specs.declared.endpoint.Version.{Version}
+use Rattle.ffa_model.specs.declared.endpoint.Version.TheVariants.{V1_2}
+use Rattle.ffa_model.specs.Bits.{is_set}
 use Rattle.ffa_model.specs.Numbers.{Identifier}
 use Rattle.ffa_model.specs.Identifiers.{place}
 use Rattle.ffa_model.specs.Lists.{listed}
 use Rattle.ffa_model.specs.First.{first_status}
-use Rattle.ffa_model.specs.State.{State, Party, is_partition_among, is_known_among, has_property}
+use Rattle.ffa_model.specs.State.{State, Party, is_partition_among, is_known_among, has_property, version_of}
 use Rattle.ffa_model.specs.Buffers.{with_rx}
 use Rattle.ffa_model.specs.Calls.{Service, success}
 
@@ -177,12 +180,22 @@ run_partition s target context =
       reply = run_reply target (status_in (schedule_of s) target);
     }
 
--- FFA_MSG_WAIT also empties the caller's RX; a message may fill it while the caller waits
-abbrev pub msg_wait : State → Service
-msg_wait s =
+-- whether FFA_MSG_WAIT with these flags leaves RX as it is: so bit 0 says, in FF-A 1.2
+abbrev pub keeps_rx : Version → ℕ → Bool
+keeps_rx V1_2 flags = is_set 0 flags
+keeps_rx version flags = false
+
+-- the caller waits, and its RX is empty, unless that is kept
+abbrev pub waited : State → Bool → State
+waited s true = with_schedule s (finished (schedule_of s) 0)
+waited s false = with_rx (with_schedule s (finished (schedule_of s) 0)) s.runner false
+
+-- FFA_MSG_WAIT; a message may fill the caller's RX while it waits
+abbrev pub msg_wait : State → ℕ → Service
+msg_wait s flags =
     record {
       guards = wait_guards (schedule_of s);
-      state = with_rx (with_schedule s (finished (schedule_of s) 0)) s.runner false;
+      state = waited s (keeps_rx (version_of s s.runner) flags);
       reply = scheduled FFA_MSG_WAIT s.runner;
     }
 

@@ -1,16 +1,19 @@
 -- SPDX-License-Identifier: MIT OR Apache-2.0
 -- Send descriptors: which bytes offer memory, and what they say. Numbers are whole and don't wrap.
-use Rattle.std.specs.Prelude.{◌≡◌, ◌≢◌, ◌≤◌, ◌<◌, ◌⊎◌, ℕ, ◌+◌, ◌*◌, ◌%◌, ◌^◌, ◌==◌, Bool, true, false, not, ◌&&◌, ◌||◌, nat_le, List, length, sum_by, Option, Some, None, if◌then◌else◌}
+use Rattle.std.specs.Prelude.{◌≡◌, ◌≢◌, ◌≤◌, ◌<◌, ◌⊎◌, ℕ, ◌+◌, ◌-◌, ◌*◌, ◌%◌, ◌^◌, ◌==◌, Bool, true, false, not, ◌&&◌, ◌||◌, nat_le, List, length, sum_by, Option, Some, None, if◌then◌else◌}
 use Rattle.std.specs.List.{list_any, list_all}
 use Rattle.ffa_model.specs.declared.limits.TheConstants.{MOST_RANGES, MOST_RECEIVERS}
+use Rattle.ffa_model.specs.declared.manifest.Ffa.{Ffa}
+use Rattle.ffa_model.specs.declared.manifest.Ffa.TheVariants.{V1_1, V1_2}
 use Rattle.ffa_model.specs.declared.rights.Kind.{Kind}
 use Rattle.ffa_model.specs.declared.rights.Kind.TheVariants.{Share, Lend, Donate}
 use Rattle.ffa_model.specs.declared.transaction.Range.{Range}
 use Rattle.ffa_model.specs.declared.transaction.Receiver.{Receiver}
 use Rattle.ffa_model.specs.declared.descriptor.SendDesc.{SendDesc}
+use Rattle.ffa_model.specs.Bits.{bits}
 use Rattle.ffa_model.specs.Numbers.{Identifier}
 use Rattle.ffa_model.specs.Lists.{listed}
-use Rattle.ffa_model.specs.DescriptorPlaces.{Versioned, u32_at, u64_at, sender_field, attributes_field, flags_field, handle_field, tag_field, receiver_count, access_place, array_end, IsHeader, is_header, endpoint_field, permissions_field, access_flags_field, composite_field, access_reserved_field, composite_place, total_field, range_count, range_place, data_of, normal_memory}
+use Rattle.ffa_model.specs.DescriptorPlaces.{Versioned, u32_at, u64_at, sender_field, attributes_field, flags_field, handle_field, tag_field, receiver_count, access_place, array_end, IsHeader, is_header, endpoint_field, permissions_field, access_flags_field, composite_field, is_access_rest_zero, composite_place, total_field, range_count, range_place, data_of, kind_code, normal_memory}
 
 -- what a send descriptor says
 pub record SendRecord : Type 0 where
@@ -66,6 +69,17 @@ attributes_of Share count = normal_memory
 attributes_of Lend count = if count == 1 then 0 else normal_memory
 attributes_of Donate count = 0
 
+-- on a machine of FF-A 1.2 each lend may leave it, and may say it
+abbrev pub is_attributes : Ffa → Kind → ℕ → ℕ → Bool
+is_attributes V1_2 Lend count attributes = (attributes == 0) || (attributes == normal_memory)
+is_attributes ffa kind count attributes = attributes == attributes_of kind count
+
+-- what the flags say beside the type of the transaction in bits 4:3: on a machine of FF-A 1.2 these may name the type, which the
+-- call has
+abbrev pub flags_but_type : Ffa → Kind → ℕ → ℕ
+flags_but_type V1_1 kind flags = flags
+flags_but_type V1_2 kind flags = if bits 4 3 flags == kind_code (Some kind) then flags - 8 * kind_code (Some kind) else flags
+
 -- a share and a lend grant a data right; a donate grants none. Neither says anything of instructions
 abbrev pub IsGrant : Kind → ℕ → Type 0
 IsGrant Share permissions = (permissions ≡ 1) ⊎ (permissions ≡ 2)
@@ -77,7 +91,7 @@ pub record IsAccess (kind : Kind) (descriptor : Versioned) (at : ℕ) : Type 0 w
   pub permissions : IsGrant kind (permissions_field descriptor.bytes at)
   pub flags : access_flags_field descriptor.bytes at ≡ 0
   pub composite : composite_field descriptor.bytes at ≡ composite_place descriptor
-  pub reserved : access_reserved_field descriptor.bytes at ≡ 0
+  pub reserved : is_access_rest_zero descriptor.version descriptor.bytes at ≡ true
   pub other : endpoint_field descriptor.bytes at ≢ sender_field descriptor
 
 -- the composite stands behind the access descriptors, and inside the bytes with its ranges
@@ -99,11 +113,11 @@ pub record IsRange (bytes : List ℕ) (at : ℕ) : Type 0 where
 abbrev pub AreApart : Range → Range → Type 0
 AreApart range q = (range_end range ≤ q.address) ⊎ (range_end q ≤ range.address)
 
--- The bytes are a send descriptor of this kind, and say this. All other bytes are free
-pub record Send (kind : Kind) (descriptor : Versioned) (send : SendRecord) : Type 0 where
+-- The bytes are a send descriptor of this kind for a machine of this FF-A, and say this. All other bytes are free
+pub record Send (ffa : Ffa) (kind : Kind) (descriptor : Versioned) (send : SendRecord) : Type 0 where
   pub header : IsHeader descriptor
-  pub attributes : attributes_field descriptor ≡ attributes_of kind (receiver_count descriptor)
-  pub flags : flags_field descriptor ≤ most_flags kind
+  pub attributes : is_attributes ffa kind (receiver_count descriptor) (attributes_field descriptor) ≡ true
+  pub flags : flags_but_type ffa kind (flags_field descriptor) ≤ most_flags kind
   pub handle : handle_field descriptor ≡ 0
   pub least : 1 ≤ receiver_count descriptor
   pub most : receiver_count descriptor ≤ most_receivers kind
@@ -116,7 +130,7 @@ pub record Send (kind : Kind) (descriptor : Versioned) (send : SendRecord) : Typ
       (i j : ℕ) → j < i → i < range_count descriptor → AreApart (range_in descriptor i) (range_in descriptor j)
   pub total : page_total (ranges_in descriptor (range_count descriptor)) ≡ total_field descriptor
   pub sender : send.sender ≡ sender_field descriptor
-  pub zero : send.zero ≡ (flags_field descriptor == 1)
+  pub zero : send.zero ≡ (flags_but_type ffa kind (flags_field descriptor) == 1)
   pub tag : send.tag ≡ tag_field descriptor
   pub receivers : send.receivers ≡ receivers_in descriptor (receiver_count descriptor)
   pub ranges : send.ranges ≡ ranges_in descriptor (range_count descriptor)
@@ -132,7 +146,7 @@ is_access kind descriptor at =
     is_grant kind (permissions_field descriptor.bytes at)
     && (access_flags_field descriptor.bytes at == 0)
     && (composite_field descriptor.bytes at == composite_place descriptor)
-    && (access_reserved_field descriptor.bytes at == 0)
+    && is_access_rest_zero descriptor.version descriptor.bytes at
     && not (endpoint_field descriptor.bytes at == sender_field descriptor)
 
 abbrev pub is_named : ℕ → List Receiver → Bool
@@ -173,10 +187,10 @@ is_range_beside descriptor i =
 abbrev pub holds_at_each : (ℕ → Bool) → ℕ → Bool
 holds_at_each test n = list_all (λ (t : Bool). t) (listed n test)
 
-unfoldable pub is_send_header : Kind → Versioned → Bool
-is_send_header kind descriptor =
-    (attributes_field descriptor == attributes_of kind (receiver_count descriptor))
-    && nat_le (flags_field descriptor) (most_flags kind)
+unfoldable pub is_send_header : Ffa → Kind → Versioned → Bool
+is_send_header ffa kind descriptor =
+    is_attributes ffa kind (receiver_count descriptor) (attributes_field descriptor)
+    && nat_le (flags_but_type ffa kind (flags_field descriptor)) (most_flags kind)
     && (handle_field descriptor == 0)
     && nat_le 1 (receiver_count descriptor)
     && nat_le (receiver_count descriptor) (most_receivers kind)
@@ -188,22 +202,22 @@ is_send_body kind descriptor =
     && holds_at_each (is_range_beside descriptor) (range_count descriptor)
     && (page_total (ranges_in descriptor (range_count descriptor)) == total_field descriptor)
 
-abbrev pub send_in : Versioned → SendRecord
-send_in descriptor =
+abbrev pub send_in : Ffa → Kind → Versioned → SendRecord
+send_in ffa kind descriptor =
     record {
       sender = sender_field descriptor;
-      zero = flags_field descriptor == 1;
+      zero = flags_but_type ffa kind (flags_field descriptor) == 1;
       tag = tag_field descriptor;
       receivers = receivers_in descriptor (receiver_count descriptor);
       ranges = ranges_in descriptor (range_count descriptor);
     }
 
 -- the counts are judged before a list is
-abbrev pub send_counted : Bool → Kind → Versioned → Option SendRecord
-send_counted false kind descriptor = None
-send_counted true kind descriptor = if is_send_body kind descriptor then Some (send_in descriptor) else None
+abbrev pub send_counted : Bool → Ffa → Kind → Versioned → Option SendRecord
+send_counted false ffa kind descriptor = None
+send_counted true ffa kind descriptor = if is_send_body kind descriptor then Some (send_in ffa kind descriptor) else None
 
 -- what a send descriptor of this kind says, if the bytes are one
-unfoldable pub send_of : Kind → Versioned → Option SendRecord
-send_of kind descriptor =
-    send_counted (is_header descriptor && is_send_header kind descriptor && is_composite descriptor) kind descriptor
+unfoldable pub send_of : Ffa → Kind → Versioned → Option SendRecord
+send_of ffa kind descriptor =
+    send_counted (is_header descriptor && is_send_header ffa kind descriptor && is_composite descriptor) ffa kind descriptor

@@ -1,12 +1,13 @@
 -- SPDX-License-Identifier: MIT OR Apache-2.0
 -- Version, features, identifiers and partition information (DEN0077A, 13).
 use Rattle.byteorder.specs.Endian.{little_bytes}
-use Rattle.std.specs.Prelude.{ℕ, ◌+◌, ◌==◌, Bool, true, false, not, ◌&&◌, ◌||◌, List, [], ◌∷◌, ◌++◌, length, replicate, is_none, is_some, if◌then◌else◌}
+use Rattle.std.specs.Prelude.{ℕ, ◌+◌, ◌*◌, ◌^◌, ◌==◌, Bool, true, false, not, ◌&&◌, ◌||◌, List, [], ◌∷◌, ◌++◌, length, replicate, is_none, is_some, if◌then◌else◌}
 use Rattle.std.specs.Str.{bytes_eq}
 use Rattle.std.specs.List.{filter, flat_map, enumerate_from}
-use Rattle.ffa_model.specs.declared.function.TheConstants.{FFA_MEM_RETRIEVE_REQ, FFA_MEM_RETRIEVE_REQ_64}
+use Rattle.ffa_model.specs.declared.function.TheConstants.{FFA_MEM_RETRIEVE_REQ, FFA_MEM_RETRIEVE_REQ_64, FFA_RXTX_MAP, FFA_RXTX_MAP_64}
+use Rattle.ffa_model.specs.declared.limits.TheConstants.{MOST_BUFFER_PAGES}
 use Rattle.ffa_model.specs.declared.endpoint.Version as versions
-use Rattle.ffa_model.specs.declared.endpoint.Version.TheVariants.{Compact, V1_1}
+use Rattle.ffa_model.specs.declared.endpoint.Version.TheVariants.{Compact, V1_1, V1_2}
 use Rattle.ffa_model.specs.declared.manifest.Ffa.{Ffa}
 use Rattle.ffa_model.specs.declared.manifest.Ffa.TheVariants as served
 use Rattle.ffa_model.specs.declared.operation.ErrorCode.TheVariants.{NotSupported}
@@ -28,11 +29,12 @@ version_reply version =
 
 -- the form in which a caller of the version that a word names writes and reads
 abbrev pub form_of : ℕ → versions.Version
-form_of word = if bits 15 0 word == 0 then Compact else V1_1
+form_of word = if bits 15 0 word == 0 then Compact else if bits 15 0 word == 1 then V1_1 else V1_2
 
 abbrev pub is_form : versions.Version → versions.Version → Bool
 is_form Compact Compact = true
 is_form V1_1 V1_1 = true
+is_form V1_2 V1_2 = true
 is_form version other = false
 
 -- whether FFA_VERSION with this word is served: the major number is 1, and a caller with buffers names the form that it has
@@ -48,25 +50,39 @@ version_kept served.V1_2 s word = if is_served_version s word then with_version 
 
 abbrev pub version_answer : Ffa → State → ℕ → Reply
 version_answer served.V1_1 s word = version_reply word
-version_answer served.V1_2 s word = if is_served_version s word then Version 0x10001 else Version 0xFFFFFFFF
+version_answer served.V1_2 s word = if is_served_version s word then Version 0x10002 else Version 0xFFFFFFFF
 
 -- FFA_VERSION (DEN0077A, 13.2)
 abbrev pub ffa_version : State → ℕ → Service
 ffa_version s word = record { guards = []; state = version_kept s.ffa s word; reply = version_answer s.ffa s word }
 
--- bit 1 of what is told of FFA_MEM_RETRIEVE_REQ says that its response tells non-secure memory
-abbrev pub feature_properties : Bool → ℕ → ℕ
-feature_properties is_told function = if is_told && (function == FFA_MEM_RETRIEVE_REQ || function == FFA_MEM_RETRIEVE_REQ_64) then 2 else 0
+-- what a machine of FF-A 1.2 tells of FFA_RXTX_MAP: to a caller of FF-A 1.2, in bits 31:16, how many pages a buffer has at most
+abbrev pub map_properties : versions.Version → ℕ
+map_properties V1_2 = MOST_BUFFER_PAGES * 2 ^ 16
+map_properties version = 0
 
-abbrev pub features_reply : Bool → ℕ → Reply
-features_reply is_told function =
-    if is_function function then success (feature_properties is_told function) 0 else Error NotSupported
+-- and of FFA_MEM_RETRIEVE_REQ: in bit 1 that its response tells non-secure memory, as the compact form doesn't
+abbrev pub retrieve_properties : versions.Version → ℕ
+retrieve_properties Compact = 0
+retrieve_properties version = 2
+
+-- what is told of a call beside that there is one, to a caller of this form
+abbrev pub feature_properties : Ffa → versions.Version → ℕ → ℕ
+feature_properties served.V1_1 version function = 0
+feature_properties served.V1_2 version function =
+    if function == FFA_RXTX_MAP || function == FFA_RXTX_MAP_64 then map_properties version
+    else if function == FFA_MEM_RETRIEVE_REQ || function == FFA_MEM_RETRIEVE_REQ_64 then retrieve_properties version
+    else 0
+
+abbrev pub features_reply : Ffa → versions.Version → ℕ → Reply
+features_reply ffa version function =
+    if is_function function then success (feature_properties ffa version function) 0 else Error NotSupported
 
 abbrev pub features_guards : ℕ → List (Bool × Refusal)
 features_guards function = (is_function function, FunctionUnknown) ∷ []
 
 abbrev pub features : State → ℕ → Service
-features s function = record (replying s (features_reply (is_some s.normal) function)) { guards = features_guards function }
+features s function = record (replying s (features_reply s.ffa (version_of s s.runner) function)) { guards = features_guards function }
 
 -- the 16 bytes that four registers hold
 abbrev pub uuid_bytes : List ℕ → List ℕ
@@ -84,7 +100,7 @@ selected parties uuid = filter (is_selected uuid) (enumerate_from 0 parties)
 -- properties of messages alone; else bit 8 says that it is AArch64, and the UUID answers the Nil UUID alone
 abbrev pub properties_info : versions.Version → List ℕ → Party → List ℕ
 properties_info Compact uuid party = little_bytes 4 (bits 2 0 party.properties)
-properties_info V1_1 uuid party =
+properties_info version uuid party =
     little_bytes 4 (party.properties + 0x100) ++ (if is_nil uuid then party.uuid else replicate 16 0)
 
 abbrev pub info_of : versions.Version → List ℕ → ℕ × Party → List ℕ
@@ -96,7 +112,7 @@ info_bytes version parties uuid = flat_map (info_of version uuid) (selected part
 -- the size of one partition's information as its caller is told it; a compact caller is told 0
 abbrev pub told_info_size : versions.Version → ℕ
 told_info_size Compact = 0
-told_info_size V1_1 = 24
+told_info_size version = 24
 
 abbrev pub is_count_alone : ℕ → Bool
 is_count_alone flags = is_set 0 flags

@@ -72,7 +72,9 @@ pub enum Call {
     /// FFA_ID_GET.
     IdGet,
     /// FFA_MSG_WAIT.
-    MsgWait,
+    MsgWait {
+        flags: u32,
+    },
     /// FFA_YIELD.
     Yield,
     /// FFA_RUN: the partition that is given cycles, and which of its execution contexts.

@@ -68,6 +68,8 @@ pub enum Version {
     /// That of FF-A 1.1.
     #[default]
     V1_1,
+    /// That of FF-A 1.2, whose access descriptors have 32 bytes.
+    V1_2,
 }
 
 /// The address of a byte of RAM, below 4 GiB.

@@ -26,7 +26,7 @@ pub enum Flaw {
 pub enum HeaderFlaw {
     /// The descriptor is shorter than its header.
     Short,
-    /// The access descriptor size field is not 16, or not 0 in the compact form.
+    /// The access descriptor size field is not 16, 32 in FF-A 1.2, or 0 in the compact form.
     AccessSize,
     /// The offset of the access descriptors is not a multiple of 16.
     ArrayUnaligned,

@@ -39,8 +39,8 @@ pub const MOST_BUFFER_PAGES: u32 = 4;
 pub const MOST_RECEIVERS: usize = 4;
 
 /// The most ranges of a transaction.
-// A response has 80 bytes and 16 for each in one page of RX: 251. `play_writer` writes a descriptor into one page: 248
-// beside four receivers. A slot has 8 bytes for each, the stack and what C is told of a change 16. Each is compared
+// A response has at most 96 bytes and 16 for each in one page of RX: 250. `play_writer` writes a descriptor into one page:
+// 244 beside four receivers. A slot has 8 bytes for each, the stack and what C is told of a change 16. Each is compared
 // with all before it; that all their pages are fewer than 2^32 is `few-pages` of `ffa_memshare`.
 pub const MOST_RANGES: usize = 64;
 

@@ -9,26 +9,29 @@ ghost use Rattle.ffa_model.specs.State.{is_known_among};
 
 use crate::bitmaps::Bitmaps;
 use crate::class::Class;
-use ffa_model::{EndpointId, ErrorCode, NotificationBits, Reply};
+use ffa_model::{EndpointId, ErrorCode, Ffa, NotificationBits, Reply};
 
 impl Bitmaps {
-    /// FFA_NOTIFICATION_BITMAP_CREATE, for an endpoint with so many execution contexts: the normal world has bitmaps then.
+    /// FFA_NOTIFICATION_BITMAP_CREATE on a machine of this version of FF-A, for an endpoint with so many execution contexts: the
+    /// normal world has bitmaps then.
     ///
     /// # Errors
     ///
-    /// In this order: `Denied` where the caller isn't the normal world; `InvalidParameters` where the endpoint isn't or
-    /// hasn't one execution context; `Denied` where it has bitmaps. An error changes nothing.
+    /// In this order: `Denied` where the caller isn't the normal world; `InvalidParameters` where the endpoint isn't, or where
+    /// the contexts aren't one in FF-A 1.1, or one to the count of processors in FF-A 1.2; `Denied` where it has bitmaps. An
+    /// error changes nothing.
     pub fn create(
         &mut self,
+        ffa: Ffa,
         caller: EndpointId,
         endpoint: u32,
         contexts: u32,
     ) -> Result<(), ErrorCode>
-        ensures refusal { result_err result ≡ first_failure (create_guards self.old caller.0 endpoint contexts) }
+        ensures refusal { result_err result ≡ first_failure (create_guards ffa self.old caller.0 endpoint contexts) }
         ensures kept { OnErr result (self.new ≡ self.old) }
         ensures created { OnOk result (self.new ≡ with_bitmaps self.old 0) }
     {
-        self.check_create(caller, endpoint, contexts)?;
+        self.check_create(ffa, caller, endpoint, contexts)?;
         self.give(EndpointId::NORMAL_WORLD);
         Ok(())
     }
@@ -108,27 +111,31 @@ impl Bitmaps {
         Ok(())
     }
 
-    /// FFA_NOTIFICATION_GET, for a receiver in one of its execution contexts: the reply has the caller's pending bits of the classes that the flags ask
-    /// for, and they are pending no more.
+    /// FFA_NOTIFICATION_GET on a machine of this version of FF-A, for a receiver in one of its execution contexts: the reply has
+    /// the caller's pending bits of the classes that the flags ask for, and they are pending no more. The bits are the same in
+    /// each context.
     ///
     /// # Errors
     ///
-    /// In this order: `InvalidParameters` where the receiver isn't the caller, the context isn't 0, or the flags ask for
-    /// more than four classes; `Denied` where the caller has no bitmaps. An error changes nothing.
+    /// In this order: `InvalidParameters` where the receiver isn't the caller, the context isn't 0, except that the normal
+    /// world has one for each processor in FF-A 1.2, or the flags ask for more than four classes; `Denied` where the caller
+    /// has no bitmaps. An error changes nothing.
     pub fn get(
         &mut self,
+        ffa: Ffa,
         caller: EndpointId,
         receiver: EndpointId,
         context: u16,
         flags: u32,
     ) -> Result<Reply, ErrorCode>
         requires { is_known_among (length self.old.bitmaps) caller.0 ≡ true }
-        ensures refusal { result_err result ≡ first_failure (get_guards self.old caller.0 receiver.0 context flags) }
+        ensures refusal { result_err result
+            ≡ first_failure (get_guards ffa self.old caller.0 receiver.0 context flags) }
         ensures reply { IfOk result (λ reply. reply ≡ get_reply self.old caller.0 flags) }
         ensures kept { OnErr result (self.new ≡ self.old) }
         ensures cleared { OnOk result (self.new ≡ without_pending self.old caller.0 flags) }
     {
-        self.check_get(caller, receiver, context, flags)?;
+        self.check_get(ffa, caller, receiver, context, flags)?;
         let reply = self.pending_reply(caller, flags);
         self.clear_asked(caller, flags);
         Ok(reply)

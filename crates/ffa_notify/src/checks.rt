@@ -3,28 +3,29 @@
 ghost use Rattle.std.specs.Prelude.{◌≡◌, ◌==◌, ◌||◌, true, Bool, List, length, Some, OnOk, IfErr};
 ghost use Rattle.std.specs.Result.{result_err};
 ghost use Rattle.ffa_model.specs.Calls.{first_refusal};
-ghost use Rattle.ffa_model.specs.Notifications.{bind_guards, create_guards, destroy_guards, get_guards, sender_guards, set_guards, unbind_guards};
+ghost use Rattle.ffa_model.specs.Notifications.{bind_guards, create_guards, destroy_guards, get_guards, is_context, is_context_count, sender_guards, set_guards, unbind_guards};
 ghost use Rattle.ffa_model.specs.State.{is_known_among};
 
 use crate::bitmaps::Bitmaps;
-use ffa_model::{EndpointId, NotificationBits, Refusal};
+use ffa_model::{EndpointId, Ffa, MOST_PROCESSORS, NotificationBits, Refusal};
 
 /// The flag of FFA_NOTIFICATION_SET that delays the schedule receiver interrupt, of which there is none.
 const DELAY_INTERRUPT: u32 = 2;
 
 impl Bitmaps {
-    /// The checks of FFA_NOTIFICATION_BITMAP_CREATE. Nothing changes.
+    /// The checks of FFA_NOTIFICATION_BITMAP_CREATE, on a machine of this version of FF-A. Nothing changes.
     ///
     /// # Errors
     ///
     /// The first check of the call that fails.
     pub fn check_create(
         &self,
+        ffa: Ffa,
         caller: EndpointId,
         endpoint: u32,
         contexts: u32,
     ) -> Result<(), Refusal>
-        ensures refusal { result_err result ≡ first_refusal (create_guards self.now caller.0 endpoint contexts) }
+        ensures refusal { result_err result ≡ first_refusal (create_guards ffa self.now caller.0 endpoint contexts) }
     {
         if !is_normal_world(caller) {
             return Err(Refusal::NotNormalWorld);
@@ -32,7 +33,7 @@ impl Bitmaps {
         if endpoint != 0 {
             return Err(Refusal::EndpointNotNormalWorld);
         }
-        if contexts != 1 {
+        if !is_context_count(ffa, contexts) {
             return Err(Refusal::ContextCount);
         }
         if self.has(EndpointId::NORMAL_WORLD) {
@@ -132,24 +133,26 @@ impl Bitmaps {
         Ok(())
     }
 
-    /// The checks of FFA_NOTIFICATION_GET. Nothing changes.
+    /// The checks of FFA_NOTIFICATION_GET, on a machine of this version of FF-A. Nothing changes.
     ///
     /// # Errors
     ///
     /// The first check of the call that fails.
     pub fn check_get(
         &self,
+        ffa: Ffa,
         caller: EndpointId,
         receiver: EndpointId,
         context: u16,
         flags: u32,
     ) -> Result<(), Refusal>
-        ensures refusal { result_err result ≡ first_refusal (get_guards self.now caller.0 receiver.0 context flags) }
+        ensures refusal { result_err result
+            ≡ first_refusal (get_guards ffa self.now caller.0 receiver.0 context flags) }
     {
         if receiver != caller {
             return Err(Refusal::ReceiverIsAnother);
         }
-        if context != 0 {
+        if !is_context(ffa, caller, context) {
             return Err(Refusal::ContextUnknown);
         }
         if flags > 15 {
@@ -198,6 +201,28 @@ fn is_normal_world(endpoint: EndpointId) -> bool
     ensures { result ≡ (endpoint.0 == 0) }
 {
     endpoint == EndpointId::NORMAL_WORLD
+}
+
+// Whether the normal world may have so many execution contexts: one in FF-A 1.1, and up to the count of processors in FF-A 1.2.
+fn is_context_count(ffa: Ffa, contexts: u32) -> bool
+    ensures { result ≡ is_context_count ffa contexts }
+{
+    match ffa {
+        Ffa::V1_1 => contexts == 1,
+        Ffa::V1_2 => contexts >= 1 && contexts as usize <= MOST_PROCESSORS,
+    }
+}
+
+// Whether an endpoint has this execution context. A partition has the first alone, and so has the normal world in FF-A 1.1.
+fn is_context(ffa: Ffa, endpoint: EndpointId, context: u16) -> bool
+    ensures { result ≡ is_context ffa endpoint.0 context }
+{
+    match ffa {
+        Ffa::V1_1 => context == 0,
+        Ffa::V1_2 => {
+            context == 0 || (is_normal_world(endpoint) && (context as usize) < MOST_PROCESSORS)
+        }
+    }
 }
 
 // Whether these are flags of FFA_NOTIFICATION_SET.

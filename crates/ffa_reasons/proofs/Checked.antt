@@ -15,7 +15,8 @@ use Rattle.ffa_model.specs.MemoryReturn.{memory_reclaim, reclaim_guards}
 use Rattle.ffa_model.specs.Messages.{header_in, msg_send2, send2_guards}
 use Rattle.ffa_model.specs.Notifications.{bind_guards, bitmap_create, bitmap_destroy, create_guards, destroy_guards, get_guards, notification_bind, notification_get, notification_set, notification_unbind, set_guards, unbind_guards}
 use Rattle.ffa_model.specs.Setup.{info_guards, is_any, is_count_alone, selected}
-use Rattle.ffa_model.specs.State.{State, transaction_of}
+use Rattle.ffa_model.specs.declared.endpoint.Version.{Version}
+use Rattle.ffa_model.specs.State.{State, transaction_of, version_of}
 use Rattle.ffa_rxtx.specs.Parts.{ownership_in}
 use Rattle.ffa_spmc.specs.Meaning.{IsManager, Parts, state_of}
 use Rattle.ffa_spmc.proofs.Information.{decided}
@@ -56,23 +57,25 @@ module _ (x : Parts) (machine : IsManager x) (e : ℕ) (at : e ≡ x.kept.chain.
       λ i. decided (is_nil uuid || is_any (selected (map party_of x.manifest.endpoints.items) uuid)) (is_count_alone flags)
       (is_some (buffers_in x.kept.buffers (at i))) (is_full (buffers_in x.kept.buffers (at i)))
 
-  pub send-checked : first_refusal (send2_guards (map party_of x.manifest.endpoints.items) x.kept.buffers e (header_in (sent_in x.ram x.kept.buffers e))) ≡ first_refusal (msg_send2 s).guards
+  pub send-checked : (version : Version) → version ≡ version_of s s.runner → first_refusal (send2_guards (map party_of x.manifest.endpoints.items) x.kept.buffers version e (header_in (sent_in x.ram x.kept.buffers e))) ≡ first_refusal (msg_send2 s).guards
   unfolding first
-  send-checked = λ i. first_refusal (send2_guards (map party_of x.manifest.endpoints.items) x.kept.buffers (at i) (header_in (sent-is x machine e at i)))
+  send-checked version spoken = λ i. first_refusal (send2_guards (map party_of x.manifest.endpoints.items) x.kept.buffers (spoken i) (at i) (header_in (sent-is x machine e at i)))
 
   pub reclaim-checked : (h flags : ℕ)
       → first_refusal (reclaim_guards (ownership_in x.kept.pages x.kept.layout.base.0) e flags (finite.get (map_in x.kept.pool.slots) h)) ≡ first_refusal (memory_reclaim s h flags).guards
   reclaim-checked h flags =
       λ i. first_refusal (reclaim_guards ((ap (ownership_in x.kept.pages) machine.layout.base ∙ ownership-is x machine) i) (at i) flags (transaction_of s h))
 
-  pub create-checked : (endpoint contexts : ℕ) → first_refusal (create_guards x.kept.bitmaps e endpoint contexts) ≡ first_refusal (bitmap_create s endpoint contexts).guards
-  create-checked endpoint contexts = ap (λ (f : ℕ). first_refusal (create_guards x.kept.bitmaps f endpoint contexts)) at
+  pub create-checked : (endpoint contexts : ℕ) → first_refusal (create_guards x.manifest.ffa x.kept.bitmaps e endpoint contexts) ≡ first_refusal (bitmap_create s endpoint contexts).guards
+  unfolding first
+  create-checked endpoint contexts = ap (λ (f : ℕ). first_refusal (create_guards x.manifest.ffa x.kept.bitmaps f endpoint contexts)) at
 
   pub destroy-checked : (endpoint : ℕ) → first_refusal (destroy_guards x.kept.bitmaps e endpoint) ≡ first_refusal (bitmap_destroy s endpoint).guards
   destroy-checked endpoint = ap (λ (f : ℕ). first_refusal (destroy_guards x.kept.bitmaps f endpoint)) at
 
-  pub get-checked : (receiver context flags : ℕ) → first_refusal (get_guards x.kept.bitmaps e receiver context flags) ≡ first_refusal (notification_get s receiver context flags).guards
-  get-checked receiver context flags = ap (λ (f : ℕ). first_refusal (get_guards x.kept.bitmaps f receiver context flags)) at
+  pub get-checked : (receiver context flags : ℕ) → first_refusal (get_guards x.manifest.ffa x.kept.bitmaps e receiver context flags) ≡ first_refusal (notification_get s receiver context flags).guards
+  unfolding first
+  get-checked receiver context flags = ap (λ (f : ℕ). first_refusal (get_guards x.manifest.ffa x.kept.bitmaps f receiver context flags)) at
 
   -- a call with a bitmap
   module _ (its : NotificationBits) where

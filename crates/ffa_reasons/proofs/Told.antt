@@ -95,13 +95,13 @@ module _ (x : Parts) (machine : IsManager x) where
           ))
           (first_refusal (retrieve_guards (scene-is x machine i) (at i) call.transfer (retrieve_of (at i) (whole i))))
 
-      pub sent-told : (kind : Kind)
-          → option_map (sent_told (scene_in (memory_parts_in x)) e kind call.transfer (descriptor_in x.ram x.kept.buffers e call))
-          (first_refusal (sends.send_guards (scene_in (memory_parts_in x)) e call.transfer (send_of kind (descriptor_in x.ram x.kept.buffers e call))))
-          ≡ option_map (sent_told (scene_of s) s.runner kind call.transfer (sends.descriptor_in s call.transfer.total)) (first_refusal (sends.memory_send s kind call.transfer).guards)
+      pub sent-told : (kind : Kind) → call.ffa ≡ x.manifest.ffa
+          → option_map (sent_told (scene_in (memory_parts_in x)) e call.ffa kind call.transfer (descriptor_in x.ram x.kept.buffers e call))
+          (first_refusal (sends.send_guards (scene_in (memory_parts_in x)) e call.transfer (send_of call.ffa kind (descriptor_in x.ram x.kept.buffers e call))))
+          ≡ option_map (sent_told (scene_of s) s.runner s.ffa kind call.transfer (sends.descriptor_in s call.transfer.total)) (first_refusal (sends.memory_send s kind call.transfer).guards)
       unfolding first
-      sent-told kind =
-          λ i. option_map (sent_told (scene-is x machine i) (at i) kind call.transfer (whole i)) (first_refusal (sends.send_guards (scene-is x machine i) (at i) call.transfer (send_of kind (whole i))))
+      sent-told kind serves =
+          λ i. option_map (sent_told (scene-is x machine i) (at i) (serves i) kind call.transfer (whole i)) (first_refusal (sends.send_guards (scene-is x machine i) (at i) call.transfer (send_of (serves i) kind (whole i))))
 
     module _ (refusal : Refusal) where
       pub map-failing : (tx rx pages : ℕ) → failing_map e (ownership_in x.kept.pages x.manifest.ram_base.0) tx rx pages refusal ≡ failing_map s.runner (ownership_of s) tx rx pages refusal

@@ -58,11 +58,16 @@ impl<M: PhysMem + Drop, T: Translations + Drop, S: Store> Reasons<'_, M, T, S> {
 
     // Of FFA_MEM_DONATE, FFA_MEM_LEND or FFA_MEM_SHARE.
     pub(crate) fn why_send(&self, kind: Kind, transfer: Transfer) -> Option<(Refusal, Explained)>
-        ensures { let told = sent_told (scene_of self.now) self.now.runner kind transfer (descriptor_in self.now transfer.total) in
+        ensures { let told = sent_told (scene_of self.now) self.now.runner self.now.ffa kind transfer (descriptor_in self.now transfer.total) in
             result ≡ option_map told (first_refusal (memory_send self.now kind transfer).guards) }
     {
+        let ffa = self.parts.manifest.ffa;
         let version = self.version();
-        let call = DescriptorCall { transfer, version };
+        let call = DescriptorCall {
+            transfer,
+            ffa,
+            version,
+        };
         let parts = &self.parts;
         let runner = parts.chain.runner();
         let (layout, pages) = (parts.layout, parts.pages);
@@ -76,8 +81,13 @@ impl<M: PhysMem + Drop, T: Translations + Drop, S: Store> Reasons<'_, M, T, S> {
     pub(crate) fn why_retrieve(&self, transfer: Transfer) -> Option<(Refusal, Explained)>
         ensures { result ≡ with_told self.now (Call.MemRetrieve transfer) (first_refusal (memory_retrieve self.now transfer).guards) }
     {
+        let ffa = self.parts.manifest.ffa;
         let version = self.version();
-        let call = DescriptorCall { transfer, version };
+        let call = DescriptorCall {
+            transfer,
+            ffa,
+            version,
+        };
         let parts = &self.parts;
         let runner = parts.chain.runner();
         let (layout, pages) = (parts.layout, parts.pages);

@@ -4,7 +4,7 @@ ghost use Rattle.std.specs.Prelude.{◌≡◌};
 ghost use Rattle.ffa_model.specs.Access.{access};
 ghost use Rattle.ffa_model.specs.State.{version_of};
 
-use ffa_model::{EndpointId, PageNo, Rights, Version};
+use ffa_model::{EndpointId, Ffa, PageNo, Rights, Version};
 use ffa_physmem::PhysMem;
 use ffa_spmc::{Machine, Parts, Store};
 use ffa_tlb::Translations;
@@ -56,10 +56,17 @@ impl<'a, M: PhysMem + Drop, T: Translations + Drop, S: Store> Reasons<'a, M, T, 
         self.machine.access(endpoint, page)
     }
 
+    // The version of FF-A that the machine serves.
+    pub(crate) fn ffa(&self) -> Ffa
+        ensures { result ≡ self.now.ffa }
+    {
+        self.parts.manifest.ffa
+    }
+
     // The form in which the runner writes and reads descriptors.
     pub(crate) fn version(&self) -> Version
         ensures { result ≡ version_of self.now self.now.runner }
     {
-        self.parts.versions.form_of(self.parts.chain.runner())
+        self.parts.versions.of_endpoint(self.parts.chain.runner())
     }
 }

@@ -8,7 +8,7 @@ ghost use Rattle.ffa_model.specs.Calls.{first_refusal};
 ghost use Rattle.ffa_model.specs.MemoryReturn.{memory_reclaim};
 ghost use Rattle.ffa_model.specs.Messages.{msg_send2};
 ghost use Rattle.ffa_model.specs.Notifications.{bitmap_create, bitmap_destroy, notification_bind, notification_get, notification_set, notification_unbind};
-ghost use Rattle.ffa_model.specs.RunStates.{direct_request, direct_response, msg_wait, run_partition, yield_now};
+ghost use Rattle.ffa_model.specs.RunStates.{direct_request, direct_response, run_partition, schedule_of, wait_guards, yield_now};
 ghost use Rattle.ffa_model.specs.Setup.{info_guards, is_count_alone, uuid_bytes};
 ghost use Rattle.ffa_model.specs.Step.{service};
 ghost use Rattle.ffa_reasons.specs.Explanation.{with_told};
@@ -35,7 +35,7 @@ impl<M: PhysMem + Drop, T: Translations + Drop, S: Store> Reasons<'_, M, T, S> {
             Call::PartitionInfoGet { uuid, flags } => bare(self.info_refusal(uuid, flags)),
             Call::IdGet => None,
             Call::SpmIdGet => None,
-            Call::MsgWait => bare(self.msg_wait_refusal()),
+            Call::MsgWait { flags: _ } => bare(self.msg_wait_refusal()),
             Call::Yield => bare(self.yield_refusal()),
             Call::Run { target, context } => bare(self.run_refusal(target, context)),
             Call::DirectRequest(message) => bare(self.direct_request_refusal(&message)),
@@ -107,9 +107,9 @@ impl<M: PhysMem + Drop, T: Translations + Drop, S: Store> Reasons<'_, M, T, S> {
         )
     }
 
-    // Of FFA_MSG_WAIT.
+    // Of FFA_MSG_WAIT, with any flags.
     fn msg_wait_refusal(&self) -> Option<Refusal>
-        ensures { result ≡ first_refusal (msg_wait self.now).guards }
+        ensures { result ≡ first_refusal (wait_guards (schedule_of self.now)) }
     {
         self.parts.chain.check_wait().err()
     }
@@ -147,8 +147,9 @@ impl<M: PhysMem + Drop, T: Translations + Drop, S: Store> Reasons<'_, M, T, S> {
         ensures { result ≡ first_refusal (msg_send2 self.now).guards }
     {
         let parts = &self.parts;
+        let version = self.version();
         let runner = parts.chain.runner();
-        check_send2(parts.ram, parts.buffers, parts.manifest, runner).err()
+        check_send2(parts.ram, parts.buffers, parts.manifest, version, runner).err()
     }
 
     // Of FFA_MEM_RECLAIM.
@@ -168,9 +169,10 @@ impl<M: PhysMem + Drop, T: Translations + Drop, S: Store> Reasons<'_, M, T, S> {
     fn bitmap_create_refusal(&self, endpoint: u32, contexts: u32) -> Option<Refusal>
         ensures { result ≡ first_refusal (bitmap_create self.now endpoint contexts).guards }
     {
+        let ffa = self.parts.manifest.ffa;
         let runner = self.parts.chain.runner();
         let bitmaps = self.parts.bitmaps;
-        bitmaps.check_create(runner, endpoint, contexts).err()
+        bitmaps.check_create(ffa, runner, endpoint, contexts).err()
     }
 
     // Of FFA_NOTIFICATION_BITMAP_DESTROY.
@@ -214,9 +216,12 @@ impl<M: PhysMem + Drop, T: Translations + Drop, S: Store> Reasons<'_, M, T, S> {
     ) -> Option<Refusal>
         ensures { result ≡ first_refusal (notification_get self.now receiver.0 context flags).guards }
     {
+        let ffa = self.parts.manifest.ffa;
         let runner = self.parts.chain.runner();
         let bitmaps = self.parts.bitmaps;
-        bitmaps.check_get(runner, receiver, context, flags).err()
+        bitmaps
+            .check_get(ffa, runner, receiver, context, flags)
+            .err()
     }
 }
 

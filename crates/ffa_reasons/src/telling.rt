@@ -12,7 +12,7 @@ ghost use Rattle.ffa_model.specs.Why.{granted, outcome_of, why};
 ghost use Rattle.ffa_mend.specs.Offered.{offered};
 ghost use Rattle.ffa_playable.specs.Audited.{GiveAccess};
 ghost use Rattle.ffa_playable.specs.Bench.{is_refused};
-ghost use Rattle.ffa_playable.specs.Standing.{detail, detail_by};
+ghost use Rattle.ffa_playable.specs.Standing.{contexts_in, detail, detail_by};
 ghost use Rattle.ffa_reasons.specs.Explanation.{call_told, check_explanation, explanation, fault_explanation};
 
 use crate::reasons::Reasons;
@@ -20,7 +20,8 @@ use crate::registers::about_registers;
 use crate::values::allowed_check;
 use ffa_mend::{Allowed, Explained, Mend};
 use ffa_model::{
-    Call, CertRun, Effect, EndpointId, FaultKind, Grant, Op, PageNo, Refusal, Rights, Why,
+    Call, CertRun, Effect, EndpointId, FaultKind, Ffa, Grant, MOST_PROCESSORS, Op, PageNo, Refusal,
+    Rights, Why,
 };
 use ffa_physmem::PhysMem;
 use ffa_playable::{Detail, Explanation, Standing};
@@ -168,12 +169,15 @@ impl<M: PhysMem + Drop, T: Translations + Drop, S: Store> Reasons<'_, M, T, S> {
     {
         let named = told.about.or(self.about_page(told.page));
         let about = about_registers(number, &call, refusal).or(named);
+        let (ffa, version) = (self.ffa(), self.version());
+        let contexts = contexts_in(ffa, contexts);
+        let receivers = told.receivers;
         Explanation {
             why: Why::Refused { refusal, about },
             detail: detail_by(
                 self.standing_of_check(refusal, about),
                 told.mend.or(self.mend_about(refusal, about)),
-                allowed_check(contexts, told.receivers, call, refusal, about),
+                allowed_check(contexts, ffa, version, receivers, call, refusal, about),
             ),
         }
     }
@@ -210,5 +214,15 @@ fn detail_by(
     match allowed {
         Some(allowed) => Some(Detail::Allowed(allowed)),
         None => None,
+    }
+}
+
+// How many execution contexts the normal world may name, where a machine of FF-A 1.1 would take so many.
+fn contexts_in(ffa: Ffa, contexts: u32) -> u32
+    ensures { result ≡ contexts_in ffa contexts }
+{
+    match ffa {
+        Ffa::V1_1 => contexts,
+        Ffa::V1_2 => MOST_PROCESSORS as u32,
     }
 }

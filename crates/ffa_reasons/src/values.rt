@@ -1,13 +1,15 @@
 // SPDX-License-Identifier: MIT OR Apache-2.0
 //! Which values a register or a field of a descriptor may have, where a check wants others. Nothing is changed, and no memory is taken.
-ghost use Rattle.std.specs.Prelude.{◌≡◌, ℕ, ◌+◌, ◌*◌, ◌%◌, IfSome, IsSomeAnd};
+ghost use Rattle.std.specs.Prelude.{◌≡◌, ℕ, ◌+◌, ◌*◌, ◌%◌, ◌≤◌, IfSome, IsSomeAnd};
+ghost use Rattle.ffa_model.specs.DescriptorPlaces.{accesses_size};
 ghost use Rattle.ffa_model.specs.SendDescriptor.{attributes_of, most_flags, most_receivers};
-ghost use Rattle.ffa_mend.specs.Allowed.{IsAmong, IsPlace, allowed_asked, allowed_behind, allowed_check, allowed_context, allowed_contexts, allowed_field, allowed_flags, allowed_fragment, allowed_offer, allowed_permissions, allowed_places, allowed_register, between, contexts_of, one, steps};
+ghost use Rattle.ffa_mend.specs.Allowed.{IsAmong, IsPlace, allowed_asked, allowed_attributes, allowed_behind, allowed_check, allowed_context, allowed_contexts, allowed_field, allowed_flags, allowed_fragment, allowed_offer, allowed_permissions, allowed_places, allowed_register, between, contexts_of, one, steps};
 
 use ffa_mend::Allowed;
 use ffa_model::{
-    About, AccessFlaw, Call, CompositeFlaw, EndpointId, FieldPlace, Flaw, Kind, MOST_BUFFER_PAGES,
-    MOST_RANGES, MOST_RECEIVERS, RangeFlaw, Refusal, RelinquishFlaw, RetrieveFlaw, SendFlaw,
+    About, AccessFlaw, Call, CompositeFlaw, EndpointId, Ffa, FieldPlace, Flaw, Kind,
+    MOST_BUFFER_PAGES, MOST_RANGES, MOST_RECEIVERS, RangeFlaw, Refusal, RelinquishFlaw,
+    RetrieveFlaw, SendFlaw, Version,
 };
 
 // The attributes of normal memory, as the manager wants them.
@@ -17,12 +19,14 @@ const NORMAL_MEMORY: u64 = 0x2F;
 // receivers.
 pub(crate) fn allowed_check(
     contexts: u32,
+    ffa: Ffa,
+    version: Version,
     receivers: Option<u64>,
     call: Call,
     refusal: Refusal,
     about: Option<About>,
 ) -> Option<Allowed>
-    ensures { result ≡ allowed_check contexts receivers call refusal about }
+    ensures { result ≡ allowed_check contexts ffa version receivers call refusal about }
 {
     match about {
         Some(About::Register { .. }) => allowed_register(contexts, call, refusal),
@@ -32,29 +36,55 @@ pub(crate) fn allowed_check(
                 place,
                 value: Some(_),
             },
-        ) => allowed_field(receivers, call, place, flaw),
+        ) => allowed_field(ffa, version, receivers, call, place, flaw),
         _ => None,
     }
 }
 
 // Of a field of a descriptor.
 fn allowed_field(
+    ffa: Ffa,
+    version: Version,
     receivers: Option<u64>,
     call: Call,
     place: FieldPlace,
     flaw: Flaw,
 ) -> Option<Allowed>
-    ensures { result ≡ allowed_field receivers call place flaw }
+    ensures { result ≡ allowed_field ffa version receivers call place flaw }
 {
     match call {
         Call::MemDonate(transfer) => {
-            allowed_offer(Kind::Donate, receivers, transfer.total, place, flaw)
+            allowed_offer(
+                ffa,
+                version,
+                Kind::Donate,
+                receivers,
+                transfer.total,
+                place,
+                flaw,
+            )
         }
         Call::MemLend(transfer) => {
-            allowed_offer(Kind::Lend, receivers, transfer.total, place, flaw)
+            allowed_offer(
+                ffa,
+                version,
+                Kind::Lend,
+                receivers,
+                transfer.total,
+                place,
+                flaw,
+            )
         }
         Call::MemShare(transfer) => {
-            allowed_offer(Kind::Share, receivers, transfer.total, place, flaw)
+            allowed_offer(
+                ffa,
+                version,
+                Kind::Share,
+                receivers,
+                transfer.total,
+                place,
+                flaw,
+            )
         }
         _ => allowed_asked(flaw),
     }
@@ -147,16 +177,18 @@ fn allowed_fragment(call: Call) -> Option<Allowed>
 
 // Of a field of an offer to so many receivers, if its header tells how many, in so many bytes.
 fn allowed_offer(
+    ffa: Ffa,
+    version: Version,
     kind: Kind,
     receivers: Option<u64>,
     length: u32,
     place: FieldPlace,
     flaw: Flaw,
 ) -> Option<Allowed>
-    ensures { result ≡ allowed_offer kind receivers length place flaw }
+    ensures { result ≡ allowed_offer ffa version kind receivers length place flaw }
 {
     match flaw {
-        Flaw::Send(SendFlaw::Attributes) => Some(one(attributes_of(kind, receivers?))),
+        Flaw::Send(SendFlaw::Attributes) => Some(allowed_attributes(ffa, kind, receivers?)),
         Flaw::Send(SendFlaw::Flags) => Some(between(0, most_flags(kind))),
         Flaw::Send(SendFlaw::NoReceiver | SendFlaw::ManyReceivers) => {
             Some(between(1, most_receivers(kind)))
@@ -164,7 +196,7 @@ fn allowed_offer(
         Flaw::Access(_, AccessFlaw::Permissions) => Some(allowed_permissions(kind)),
         Flaw::Composite(
             CompositeFlaw::Outside | CompositeFlaw::Unaligned | CompositeFlaw::InArray,
-        ) => allowed_behind(place.first.saturating_sub(4), receivers, length),
+        ) => allowed_behind(version, place.first.saturating_sub(4), receivers, length),
         Flaw::Composite(CompositeFlaw::NoRange | CompositeFlaw::ManyRanges) => {
             Some(between(1, MOST_RANGES as u64))
         }
@@ -173,6 +205,16 @@ fn allowed_offer(
         | Flaw::Composite(CompositeFlaw::Reserved)
         | Flaw::Range(_, RangeFlaw::Reserved) => Some(one(0)),
         _ => None,
+    }
+}
+
+// The memory attributes.
+fn allowed_attributes(ffa: Ffa, kind: Kind, receivers: u64) -> Allowed
+    ensures { result ≡ allowed_attributes ffa kind receivers }
+{
+    match (ffa, kind) {
+        (Ffa::V1_2, Kind::Lend) => steps(0, NORMAL_MEMORY, NORMAL_MEMORY),
+        _ => one(attributes_of(kind, receivers)),
     }
 }
 
@@ -214,11 +256,27 @@ fn allowed_permissions(kind: Kind) -> Allowed
 }
 
 // By the place of the first of so many access descriptors.
-fn allowed_behind(array: u64, receivers: Option<u64>, length: u32) -> Option<Allowed>
-    ensures { result ≡ allowed_behind array receivers length }
+fn allowed_behind(
+    version: Version,
+    array: u64,
+    receivers: Option<u64>,
+    length: u32,
+) -> Option<Allowed>
+    ensures { result ≡ allowed_behind version array receivers length }
 {
-    let end = u128::from(array) + 16 * u128::from(receivers?);
+    let end = u128::from(array) + accesses_size(version, receivers?);
     allowed_places(end, length)
+}
+
+// The size of so many access descriptors.
+fn accesses_size(version: Version, count: u64) -> u128
+    ensures value { result ≡ accesses_size version count }
+    ensures most { result ≤ 32 * count }
+{
+    match version {
+        Version::Compact | Version::V1_1 => 16 * u128::from(count),
+        Version::V1_2 => 32 * u128::from(count),
+    }
 }
 
 // Where a composite with one range may stand, behind access descriptors and inside so many bytes.

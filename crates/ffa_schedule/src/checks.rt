@@ -4,12 +4,12 @@ ghost use Rattle.std.specs.Prelude.{◌≡◌, ◌||◌, length, Some, OnOk, IfO
 ghost use Rattle.std.specs.Result.{result_err};
 ghost use Rattle.ffa_model.specs.Calls.{first_refusal};
 ghost use Rattle.ffa_model.specs.declared.schedule.Work.TheVariants.{Run};
-ghost use Rattle.ffa_model.specs.RunStates.{is_endpoint, is_preempted, is_run, requester, run_guards, wait_guards, work_in, yield_guards};
+ghost use Rattle.ffa_model.specs.RunStates.{is_endpoint, is_preempted, is_run, keeps_rx, requester, run_guards, wait_guards, work_in, yield_guards};
 ghost use Rattle.ffa_model.specs.Sound.{IsSound, origin};
 ghost use Rattle.ffa_model.specs.Processors.{may_resume};
 
 use crate::chain::Chain;
-use ffa_model::{EndpointId, Refusal, Status, Work};
+use ffa_model::{EndpointId, Refusal, Status, Version, Work};
 
 impl Chain {
     /// The checks of FFA_RUN in order: the first that fails.
@@ -75,6 +75,16 @@ impl Chain {
         ensures { result ≡ work_in self.now self.now.runner }
     {
         self.work(self.runner())
+    }
+}
+
+/// Whether FFA_MSG_WAIT with these flags leaves the RX of a caller of this form as it is: so bit 0 says, in FF-A 1.2 alone.
+pub fn keeps_rx(version: Version, flags: u32) -> bool
+    ensures { result ≡ keeps_rx version flags }
+{
+    match version {
+        Version::V1_2 => flags % 2 == 1,
+        _ => false,
     }
 }
 

@@ -6,3 +6,4 @@ pub mod chain;
 mod checks;
 
 pub use chain::Chain;
+pub use checks::keeps_rx;

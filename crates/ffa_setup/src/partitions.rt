@@ -88,11 +88,13 @@ fn compact_info(uuid: &[u8; 16], place: usize, endpoint: &Endpoint) -> [u8; 8]
     info
 }
 
-// The information on the partition at a place in the manifest, which has its UUID where the Nil UUID was asked.
+// The information on the partition at a place in the manifest for any caller but a compact one. It has the partition's UUID
+// where the Nil UUID was asked.
 fn full_info(uuid: &[u8; 16], place: usize, endpoint: &Endpoint) -> [u8; 24]
     requires place { place < MOST_ENDPOINTS }
     requires properties { endpoint.now.properties.0 < 16 }
-    ensures { result ≡ info_of Version.V1_1 uuid.now (place, party_of endpoint.now) }
+    ensures V1_1 { result ≡ info_of Version.V1_1 uuid.now (place, party_of endpoint.now) }
+    ensures V1_2 { result ≡ info_of Version.V1_2 uuid.now (place, party_of endpoint.now) }
 {
     let mut info = [0; 24];
     LittleEndian::write_u16(&mut info[..2], EndpointId::at(place).0);
@@ -123,7 +125,7 @@ fn push_info(
             let info = compact_info(uuid, place, endpoint);
             bytes.try_extend_from_slice(&info).unwrap();
         }
-        Version::V1_1 => {
+        Version::V1_1 | Version::V1_2 => {
             let info = full_info(uuid, place, endpoint);
             bytes.try_extend_from_slice(&info).unwrap();
         }
@@ -136,7 +138,7 @@ pub fn told_info_size(version: Version) -> u32
 {
     match version {
         Version::Compact => 0,
-        Version::V1_1 => 24,
+        Version::V1_1 | Version::V1_2 => 24,
     }
 }
 

@@ -1,21 +1,28 @@
 // SPDX-License-Identifier: MIT OR Apache-2.0
 //! Calls whose reply is all that they do, and the answers of FFA_VERSION.
 ghost use Rattle.std.specs.Prelude.{◌≡◌, ◌==◌, ◌&&◌, not, if◌then◌else◌};
-ghost use Rattle.ffa_model.specs.declared.call.Reply.TheVariants.{Version};
 ghost use Rattle.std.specs.Result.{result_err};
 ghost use Rattle.ffa_model.specs.Bits.{bits, is_set};
 ghost use Rattle.ffa_model.specs.Calls.{first_refusal, success};
 ghost use Rattle.ffa_model.specs.Identifiers.{manager};
-ghost use Rattle.ffa_model.specs.Setup.{version_reply, feature_properties, features_guards, features_reply};
+ghost use Rattle.ffa_model.specs.Setup.{version_reply, feature_properties, features_guards, features_reply, map_properties, retrieve_properties};
 
 use ffa_abi::is_function;
-use ffa_model::function::{FFA_MEM_RETRIEVE_REQ, FFA_MEM_RETRIEVE_REQ_64};
-use ffa_model::{EndpointId, Refusal, Reply};
+use ffa_model::function::{
+    FFA_MEM_RETRIEVE_REQ, FFA_MEM_RETRIEVE_REQ_64, FFA_RXTX_MAP, FFA_RXTX_MAP_64,
+};
+use ffa_model::{EndpointId, Ffa, MOST_BUFFER_PAGES, Refusal, Reply, Version};
 
-/// The version that is implemented: the major number in bits 30:16 and the minor one below.
-const VERSION: u32 = 0x0001_0001;
+/// FF-A 1.1 as FFA_VERSION names it: the major number in bits 30:16 and the minor one below.
+const V1_1: u32 = 0x0001_0001;
 
-/// What FFA_FEATURES says of a retrieve whose response tells non-secure memory.
+/// FF-A 1.2 as FFA_VERSION names it.
+const V1_2: u32 = 0x0001_0002;
+
+/// What FFA_FEATURES says of FFA_RXTX_MAP: in bits 31:16, how many pages a buffer has at most.
+const GREATEST_SIZE: u32 = MOST_BUFFER_PAGES << 16;
+
+/// What FFA_FEATURES says of a retrieve whose response tells non-secure memory: bit 1.
 const TELLS_WORLDS: u32 = 2;
 
 /// NOT_SUPPORTED as FFA_VERSION answers it, as 32 bits of two's complement.
@@ -26,7 +33,7 @@ const NO_VERSION: u32 = 0xFFFF_FFFF;
 pub fn version(version: u32) -> Reply
     ensures { result ≡ version_reply version }
 {
-    answer(is_version(version))
+    told_version(is_version(version), V1_1)
 }
 
 /// Whether a word names a version whose major number is 1.
@@ -36,33 +43,64 @@ pub fn is_version(word: u32) -> bool
     word >> 16 == 1
 }
 
-/// FFA_VERSION's answer, by whether the caller's version is served.
+/// FFA_VERSION's answer on a machine of FF-A 1.2, by whether the caller's version is served.
 pub fn answer(is_served: bool) -> Reply
-    ensures { result ≡ Version (if is_served then 0x10001 else 0xFFFFFFFF) }
+    ensures { result ≡ Reply.Version (if is_served then 0x10002 else 0xFFFFFFFF) }
 {
-    Reply::Version(if is_served { VERSION } else { NO_VERSION })
+    told_version(is_served, V1_2)
 }
 
-/// FFA_FEATURES (DEN0077A, 13), by the identifier of a call in either form: whether there is such a call, and of
-/// FFA_MEM_RETRIEVE_REQ whether its response tells non-secure memory, as it does where worlds are told apart. No other
+// FFA_VERSION's answer, by whether the caller's version is served, on a machine of this version.
+fn told_version(is_served: bool, version: u32) -> Reply
+    ensures { result ≡ Reply.Version (if is_served then version else 0xFFFFFFFF) }
+{
+    Reply::Version(if is_served { version } else { NO_VERSION })
+}
+
+/// FFA_FEATURES (DEN0077A, 13), by the identifier of a call in either form: whether there is such a call. A machine of FF-A 1.2
+/// also tells properties of two calls: of FFA_RXTX_MAP how many pages a buffer has at most, to a caller of the form of FF-A 1.2;
+/// and of FFA_MEM_RETRIEVE_REQ that its response tells non-secure memory, to a caller of any but the compact form. No other
 /// call has further properties.
-pub fn features(function: u32, tells_worlds: bool) -> Reply
-    ensures { result ≡ features_reply tells_worlds function }
+pub fn features(function: u32, ffa: Ffa, version: Version) -> Reply
+    ensures { result ≡ features_reply ffa version function }
 {
     match check_features(function) {
-        Ok(()) => Reply::Success([properties(function, tells_worlds), 0, 0, 0, 0, 0]),
+        Ok(()) => Reply::Success([properties(function, ffa, version), 0, 0, 0, 0, 0]),
         Err(refusal) => Reply::Error(refusal.code()),
     }
 }
 
-// The properties of a call.
-fn properties(function: u32, tells_worlds: bool) -> u32
-    ensures { result ≡ feature_properties tells_worlds function }
+// The properties of a call, on a machine of this version of FF-A, for a caller of this form.
+fn properties(function: u32, ffa: Ffa, version: Version) -> u32
+    ensures { result ≡ feature_properties ffa version function }
 {
-    if tells_worlds && (function == FFA_MEM_RETRIEVE_REQ || function == FFA_MEM_RETRIEVE_REQ_64) {
-        TELLS_WORLDS
-    } else {
-        0
+    match ffa {
+        Ffa::V1_1 => 0,
+        Ffa::V1_2 => match function {
+            FFA_RXTX_MAP | FFA_RXTX_MAP_64 => map_properties(version),
+            FFA_MEM_RETRIEVE_REQ | FFA_MEM_RETRIEVE_REQ_64 => retrieve_properties(version),
+            _ => 0,
+        },
+    }
+}
+
+// The properties of FFA_RXTX_MAP, for a caller of this form.
+fn map_properties(version: Version) -> u32
+    ensures { result ≡ map_properties version }
+{
+    match version {
+        Version::V1_2 => GREATEST_SIZE,
+        _ => 0,
+    }
+}
+
+// The properties of FFA_MEM_RETRIEVE_REQ, for a caller of this form.
+fn retrieve_properties(version: Version) -> u32
+    ensures { result ≡ retrieve_properties version }
+{
+    match version {
+        Version::Compact => 0,
+        _ => TELLS_WORLDS,
     }
 }
 

@@ -49,7 +49,7 @@ impl Versions {
 
     /// The form of an endpoint. An identifier that is no endpoint's is read at its place. It is the form of FF-A 1.1
     /// where no endpoint has the place.
-    pub fn form_of(&self, endpoint: EndpointId) -> Version
+    pub fn of_endpoint(&self, endpoint: EndpointId) -> Version
         ensures { result ≡ slice_index_or self.now (place endpoint.0) V1_1 }
     {
         let entries = self.entries.as_slice();
@@ -69,13 +69,14 @@ impl Versions {
     }
 }
 
-/// The form of the version that a word of FFA_VERSION names: that of FF-A 1.0 is the compact one.
+/// The form of the version that a word of FFA_VERSION names, by its minor number: that of FF-A 1.0 is the compact one, and
+/// versions above 1.2 have that of FF-A 1.2.
 pub fn form_of(word: u32) -> Version
     ensures { result ≡ form_of word }
 {
-    if word % 0x1_0000 == 0 {
-        Version::Compact
-    } else {
-        Version::V1_1
+    match word % 0x1_0000 {
+        0 => Version::Compact,
+        1 => Version::V1_1,
+        _ => Version::V1_2,
     }
 }

@@ -8,7 +8,7 @@ use Rattle.std.specs.FinMap as finite
 use Rattle.std.proofs.lemmas.List.{get_or_past}
 use Rattle.std.proofs.lemmas.Bool.{and_parts, cases_Bool, cases_eq, cases_lt, eqb-false, eqb-true, false≢true, true≢false}
 use Rattle.ffa_model.specs.declared.call.Call.{Call}
-use Rattle.ffa_model.specs.declared.call.Call.TheVariants.{PartitionInfoGet, MemDonate, MemLend, MemShare, MemRetrieve, MemRelinquish, MemReclaim, MsgSend2, Version}
+use Rattle.ffa_model.specs.declared.call.Call.TheVariants.{PartitionInfoGet, MemDonate, MemLend, MemShare, MemRetrieve, MemRelinquish, MemReclaim, MsgSend2, Version, MsgWait}
 use Rattle.ffa_model.specs.declared.descriptor.RelinquishDesc.{RelinquishDesc}
 use Rattle.ffa_model.specs.declared.endpoint.EndpointId.{EndpointId}
 use Rattle.ffa_model.specs.declared.operation.Op.{Op}
@@ -31,7 +31,7 @@ use Rattle.ffa_model.specs.Step.{serve, service}
 use Rattle.ffa_model.specs.Transactions.{pages_in}
 use Rattle.ffa_model.proofs.Accesses.{named-in}
 use Rattle.ffa_model.proofs.CallAccesses.{access-filled, donate-other, reclaim-other, relinquish-beside, relinquish-named, relinquish-other, retrieve-beside, retrieve-other, send-named, send-other, sendable-unnamed}
-use Rattle.ffa_laws.proofs.Form.{served-kept}
+use Rattle.ffa_laws.proofs.Form.{served-kept, waited-kept}
 use Rattle.ffa_laws.specs.OwnAccess.{is_memory_call}
 use Rattle.ffa_memshare.specs.declared.changed.Changed.{Changed}
 use Rattle.ffa_memshare.specs.Changed.{changed_sender}
@@ -52,6 +52,7 @@ module _ (s : State) (e p : ℕ) where
         | false ↦ access-filled s s.runner (info_bytes (version_of s s.runner) s.parties (uuid_bytes uuid)) e p
       ]
   left-service (Version word) beside = version-leaves (λ t. access t e p ≡ access s e p) s.ffa s word refl (λ version. refl)
+  left-service (MsgWait flags) beside = waited-kept (λ t. access t e p ≡ access s e p) s flags refl refl
   left-service MsgSend2 beside = access-filled s (header_in (tx_bytes s s.runner)).receiver (message_in (tx_bytes s s.runner)) e p
   left-service (MemDonate x) beside = absurd (true≢false beside)
   left-service (MemLend x) beside = absurd (true≢false beside)

@@ -64,22 +64,24 @@ module _ (x : Parts) where
       pub runner-notified : is_known_among (length x.kept.bitmaps.bitmaps) e ≡ true
       runner-notified = known-notified e (runner-there x machine e at)
 
-      pub got : (r : Result Reply ErrorCode) (new : Notifications) (receiver context flags : ℕ) → result_err r ≡ first_failure (get_guards x.kept.bitmaps e receiver context flags)
+      pub got : (r : Result Reply ErrorCode) (new : Notifications) (receiver context flags : ℕ) → result_err r ≡ first_failure (get_guards x.manifest.ffa x.kept.bitmaps e receiver context flags)
           → IfOk r (λ reply. reply ≡ get_reply x.kept.bitmaps e flags) → OnErr r (new ≡ x.kept.bitmaps) → OnOk r (new ≡ without_pending x.kept.bitmaps e flags)
           → replied (with_bits new) (reply_or_error r) ≡ served s (notification_get s receiver context flags)
+      unfolding first
       got r new receiver context flags refusal replies same cleared =
           notified (notification_get s receiver context flags) (without_pending x.kept.bitmaps x.kept.chain.runner flags) new r (λ reply. reply) refl
-          (refusal ∙ ap (λ (f : ℕ). first_failure (get_guards x.kept.bitmaps f receiver context flags)) at)
+          (refusal ∙ ap (λ (f : ℕ). first_failure (get_guards x.manifest.ffa x.kept.bitmaps f receiver context flags)) at)
           same
           (done-so r (λ none is. is ∙ ap (λ (f : ℕ). without_pending x.kept.bitmaps f flags) at) cleared)
           (subst (λ (f : ℕ). IfOk r (λ reply. reply ≡ get_reply x.kept.bitmaps f flags)) at replies)
 
       module _ (r : Result ⊤ ErrorCode) (new : Notifications) where
-        pub created : (endpoint contexts : ℕ) → result_err r ≡ first_failure (create_guards x.kept.bitmaps e endpoint contexts)
+        pub created : (endpoint contexts : ℕ) → result_err r ≡ first_failure (create_guards x.manifest.ffa x.kept.bitmaps e endpoint contexts)
             → OnErr r (new ≡ x.kept.bitmaps) → OnOk r (new ≡ with_bitmaps x.kept.bitmaps 0) → replied (with_bits new) (done_or_error r) ≡ served s (bitmap_create s endpoint contexts)
+        unfolding first
         created endpoint contexts refusal same done =
             notified (bitmap_create s endpoint contexts) (with_bitmaps x.kept.bitmaps 0) new r (λ done. success 0 0) refl
-            (refusal ∙ ap (λ (f : ℕ). first_failure (create_guards x.kept.bitmaps f endpoint contexts)) at) same done (done-replies r)
+            (refusal ∙ ap (λ (f : ℕ). first_failure (create_guards x.manifest.ffa x.kept.bitmaps f endpoint contexts)) at) same done (done-replies r)
 
         pub destroyed : (endpoint : ℕ) → result_err r ≡ first_failure (destroy_guards x.kept.bitmaps e endpoint)
             → OnErr r (new ≡ x.kept.bitmaps) → OnOk r (new ≡ without_bitmaps x.kept.bitmaps 0) → replied (with_bits new) (done_or_error r) ≡ served s (bitmap_destroy s endpoint)

@@ -20,6 +20,7 @@ use Rattle.ffa_model.specs.Memory.{zeroed_if}
 use Rattle.ffa_model.specs.MemorySend.{handle_reply, memory_send, memory_sent, is_told_normal, offered_in, send_guards, send_read, transaction_from, transaction_sent}
 use Rattle.ffa_model.specs.Ram.{Ram}
 use Rattle.ffa_model.specs.Rights.{is_share}
+use Rattle.ffa_model.specs.First.{first}
 use Rattle.ffa_model.specs.SendDescriptor.{SendRecord, send_of}
 use Rattle.ffa_model.specs.SoundState.{IsSoundState}
 use Rattle.ffa_model.specs.State.{State, Transaction, transaction_of, version_of, own_right_of}
@@ -64,7 +65,7 @@ pub offer-endpoints : (x : Parts) → IsManager x → length x.kept.pool.sent �
 offer-endpoints x machine = machine.sound.sized.sent ∙ parties_are x ∙ sym machine.layout.endpoints
 
 -- the code's runner is that of the run states; and it has sent what its TX describes, or was refused
-module _ (x : Parts) (machine : IsManager x) (e : ℕ) (at : e ≡ x.kept.chain.runner) (kind : Kind) (call : DescriptorCall) (spoken : call.version ≡ version_of (state_of x) (state_of x).runner) (ram : Ram) (pages : List (Option Entry)) (pool : Pooled) where
+module _ (x : Parts) (machine : IsManager x) (e : ℕ) (at : e ≡ x.kept.chain.runner) (kind : Kind) (call : DescriptorCall) (serves : call.ffa ≡ x.manifest.ffa) (spoken : call.version ≡ version_of (state_of x) (state_of x).runner) (ram : Ram) (pages : List (Option Entry)) (pool : Pooled) where
   abbrev s : State
   s = state_of x
 
@@ -83,10 +84,11 @@ module _ (x : Parts) (machine : IsManager x) (e : ℕ) (at : e ≡ x.kept.chain.
 
   -- what the pool has done
   abbrev IsDone : Option Changed → Type 0
-  IsDone news = IsSent (memory_parts_in x) (memory_parts_in after_offer) e kind bytes news
+  IsDone news = IsSent (memory_parts_in x) (memory_parts_in after_offer) e call.ffa kind bytes news
 
-  read-is : send_of kind bytes ≡ send_read s kind a.total
-  read-is = λ i. send_of kind (in_version (spoken i) (take call.transfer.total (sent-is x machine e at i)))
+  read-is : send_of call.ffa kind bytes ≡ send_read s kind a.total
+  unfolding first
+  read-is = λ i. send_of (serves i) kind (in_version (spoken i) (take call.transfer.total (sent-is x machine e at i)))
 
   -- the right that the sender keeps
   kept-right : (its : Kind) (p : ℕ) → new_right (right_after its) x.kept.pages p ≡ (if is_share its then own_right_of s p else None)
@@ -211,7 +213,7 @@ module _ (x : Parts) (machine : IsManager x) (e : ℕ) (at : e ≡ x.kept.chain.
 
   -- the clauses of the pool's call
   module _ (result : Result Value ErrorCode) (news : Option Changed)
-      (refusal : result_err result ≡ first_failure (send_guards (scene_in (memory_parts_in x)) e a (send_of kind bytes)))
+      (refusal : result_err result ≡ first_failure (send_guards (scene_in (memory_parts_in x)) e a (send_of call.ffa kind bytes)))
       (kept : OnErr result (pool ≡ x.kept.pool)) (kept_pages : OnErr result (pages ≡ x.kept.pages)) (kept_ram : OnErr result (ram ≡ x.ram))
       (handle : IfOk result (λ value. value ≡ Handle (next_handle (open_in x.kept.pool) e))) (done : OnOk result (IsDone news)) where
     refuses : result_err result ≡ first_failure guards

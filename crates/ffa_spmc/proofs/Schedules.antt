@@ -12,10 +12,10 @@ use Rattle.ffa_model.specs.declared.schedule.Status.{Status}
 use Rattle.ffa_model.specs.declared.schedule.Status.TheVariants.{Waiting, Running, Blocked, Yielded, Preempted, RunsElsewhere}
 use Rattle.ffa_model.specs.Calls.{Service, first_failure, replied, served}
 use Rattle.ffa_model.specs.First.{first}
-use Rattle.ffa_model.specs.RunStates.{Schedule, finished, msg_wait, run_reply, wait_guards, with_schedule}
+use Rattle.ffa_model.specs.RunStates.{Schedule, finished, keeps_rx, msg_wait, waited as waits, run_reply, wait_guards, with_schedule}
 use Rattle.ffa_model.specs.Buffers.{buffers_with_rx}
 use Rattle.ffa_model.specs.Refusals.{is_error}
-use Rattle.ffa_model.specs.State.{State, Buffers}
+use Rattle.ffa_model.specs.State.{State, Buffers, version_of}
 use Rattle.ffa_spmc.specs.Meaning.{Parts, state_of}
 use Rattle.ffa_spmc.specs.Replies.{message_or_error, reply_of, reply_or_error}
 use Rattle.ffa_spmc.proofs.Answered.{always-replies, answered-by, done-so, passed-state, refused-so}
@@ -57,12 +57,18 @@ module _ (x : Parts) where
   -- FFA_MSG_WAIT that is done also leaves another RX
   pub waited : (e : ℕ) → e ≡ x.kept.chain.runner → (r : Result Reply ErrorCode) (new : Schedule) (list : List (Option Buffers)) → is_ok r ≡ true
       → result_err r ≡ first_failure (wait_guards x.kept.chain) → OnOk r (new ≡ finished x.kept.chain 0) → list ≡ buffers_with_rx x.kept.buffers e false
-      → state_of (record x { kept = record x.kept { buffers = list; chain = new } }) ≡ (served s (msg_wait s)).state
+      → (flags : ℕ) → keeps_rx (version_of s s.runner) flags ≡ false
+      → state_of (record x { kept = record x.kept { buffers = list; chain = new } }) ≡ (served s (msg_wait s flags)).state
   unfolding first
-  waited e at (Ok reply) new list ok passes is emptied =
+  waited e at (Ok reply) new list ok passes is emptied flags leaves =
       (λ i. state_of (record x { kept = record x.kept { buffers = (emptied ∙ ap (λ (f : ℕ). buffers_with_rx x.kept.buffers f false) at) i; chain = is i } }))
-      ∙ sym (passed-state s (msg_wait s) (sym passes))
-  waited e at (Err code) new list ok fails is emptied = absurd (false≢true ok)
+      ∙ sym (passed-state s (msg_wait s flags) (sym passes) ∙ ap (waits s) leaves)
+  waited e at (Err code) new list ok fails is emptied flags leaves = absurd (false≢true ok)
+
+  -- or leaves RX as it is
+  pub waits-keeping : (flags : ℕ) → keeps_rx (version_of s s.runner) flags ≡ true → (msg_wait s flags).state ≡ with_schedule s (finished x.kept.chain 0)
+  unfolding first
+  waits-keeping flags keeps = ap (waits s) keeps
 
 -- what FFA_RUN replies is no error
 pub run-plain : (target : ℕ) (status : Status) → is_error (run_reply target status) ≡ false

@@ -21,7 +21,7 @@ use Rattle.ffa_model.specs.Memory.{page_bytes, run_bytes}
 use Rattle.ffa_model.specs.Messages.{delivered, header_in, message_in, msg_send2, send2_guards, tx_bytes}
 use Rattle.ffa_model.specs.Notifications.{Notifications, with_notifications, manager_class, message_bits, with_pending}
 use Rattle.ffa_model.specs.Ram.{Ram, page_of}
-use Rattle.ffa_model.specs.State.{State, Page, Party, Buffers, is_known, is_known_among}
+use Rattle.ffa_model.specs.State.{State, Page, Party, Buffers, is_known, is_known_among, version_of}
 use Rattle.ffa_model.proofs.Guards.{guard-passes}
 use Rattle.ffa_rxtx.specs.Parts.{tx_in, with_rx_bytes}
 use Rattle.ffa_messages.specs.Parts.{AreEndsApart, AreInRam, receiver_in, sent_in}
@@ -32,6 +32,7 @@ use Rattle.ffa_spmc.proofs.Held.{each, parties_are}
 use Rattle.ffa_spmc.proofs.Agreements.{agrees}
 use Rattle.ffa_spmc.proofs.Machines.{StillHasTables}
 use Rattle.ffa_spmc.proofs.Unowned.{unowned-filled, unowned-same}
+use Rattle.ffa_model.specs.declared.endpoint.Version.{Version}
 
 -- the endpoint at a place is there, and its place is this one
 known-at : (n i : ℕ) → i < n → is_known_among n (identifier i) ≡ true
@@ -80,75 +81,77 @@ module _ (x : Parts) (machine : IsManager x) where
     pub sent-is : tx ≡ tx_bytes s x.kept.chain.runner
     sent-is = tx-is ∙ ap (tx_bytes s) at
 
-    receiver-known : first_failure (send2_guards parties x.kept.buffers e (header_in tx)) ≡ None → is_known s receiver ≡ true
+  -- by its sender's form
+  module _ (e : ℕ) (at : e ≡ x.kept.chain.runner) (version : Version) (spoken : version ≡ version_of s s.runner) where
+    receiver-known : first_failure (send2_guards parties x.kept.buffers version e (header_in (tx e at))) ≡ None → is_known s (receiver e at) ≡ true
     unfolding first
-    receiver-known none = guard-passes (send2_guards parties x.kept.buffers e (header_in tx)) 4 (sym none)
+    receiver-known none = guard-passes (send2_guards parties x.kept.buffers version e (header_in (tx e at))) 4 (sym none)
 
-    receiver-other : first_failure (send2_guards parties x.kept.buffers e (header_in tx)) ≡ None → (receiver == e) ≡ false
+    receiver-other : first_failure (send2_guards parties x.kept.buffers version e (header_in (tx e at))) ≡ None → (receiver e at == e) ≡ false
     receiver-other none =
-        not-true (receiver == e) (guard-passes (send2_guards parties x.kept.buffers e (header_in tx)) 5 (sym none))
+        not-true (receiver e at == e) (guard-passes (send2_guards parties x.kept.buffers version e (header_in (tx e at))) 5 (sym none))
 
     -- where the message passes its checks, the receiver's RX is beside the sender's TX: each page has one owner
-    pub ends-apart : AreEndsApart parties x.ram x.kept.buffers e
+    pub ends-apart : AreEndsApart parties x.ram x.kept.buffers version e
     ends-apart none from to own_from own_to p in_tx = elim (cases_Bool (is_in_run to.rx to.pages p)) [
       | inl in_rx ↦
           (let tx_owner = (buffers-there x machine e (runner-there x machine e at) from own_from).tx_owner p in_tx in
-          let rx_owner = (buffers-there x machine receiver (receiver-known none) to own_to).rx_owner p in_rx in
-          absurd (eqb-false receiver e (receiver-other none) (sym rx_owner ∙ tx_owner)))
+          let rx_owner = (buffers-there x machine (receiver e at) (receiver-known none) to own_to).rx_owner p in_rx in
+          absurd (eqb-false (receiver e at) e (receiver-other none) (sym rx_owner ∙ tx_owner)))
       | inr beside ↦ beside
     ]
 
     module _ (r : Result EndpointId ErrorCode) (new : Ram) (list : List (Option Buffers))
-        (refusal : result_err r ≡ first_failure (send2_guards parties x.kept.buffers e (header_in tx)))
+        (refusal : result_err r ≡ first_failure (send2_guards parties x.kept.buffers version e (header_in (tx e at))))
         (kept_ram : OnErr r (new ≡ x.ram)) (kept_buffers : OnErr r (list ≡ x.kept.buffers))
-        (filled_ram : OnOk r (new ≡ with_rx_bytes x.ram (buffers_in x.kept.buffers receiver) (message_in tx)))
-        (full : OnOk r (list ≡ buffers_with_rx x.kept.buffers receiver true)) (to : IfOk r (λ f. f.0 ≡ receiver)) where
+        (filled_ram : OnOk r (new ≡ with_rx_bytes x.ram (buffers_in x.kept.buffers (receiver e at)) (message_in (tx e at))))
+        (full : OnOk r (list ≡ buffers_with_rx x.kept.buffers (receiver e at) true)) (to : IfOk r (λ f. f.0 ≡ (receiver e at))) where
       -- the parts after it, with these notifications
       abbrev pub after_send : Notifications → Parts
       after_send bitmaps = record x { ram = new; kept = record x.kept { buffers = list; bitmaps = bitmaps } }
 
-      same-refusal : first_failure (send2_guards parties x.kept.buffers e (header_in tx)) ≡ first_failure (msg_send2 s).guards
+      same-refusal : first_failure (send2_guards parties x.kept.buffers version e (header_in (tx e at))) ≡ first_failure (msg_send2 s).guards
       unfolding first
-      same-refusal = λ i. first_failure (send2_guards parties x.kept.buffers (at i) (header_in (sent-is i)))
+      same-refusal = λ i. first_failure (send2_guards parties x.kept.buffers (spoken i) (at i) (header_in (sent-is e at i)))
 
       -- a message that is sent
       module _ (f : EndpointId) (is : r ≡ Ok f) where
-        passes : first_failure (send2_guards parties x.kept.buffers e (header_in tx)) ≡ None
+        passes : first_failure (send2_guards parties x.kept.buffers version e (header_in (tx e at))) ≡ None
         passes = sym (ap result_err (sym is) ∙ refusal)
 
-        to-receiver : f.0 ≡ receiver
-        to-receiver = subst (λ (o : Result EndpointId ErrorCode). IfOk o (λ f. f.0 ≡ receiver)) is to
+        to-receiver : f.0 ≡ (receiver e at)
+        to-receiver = subst (λ (o : Result EndpointId ErrorCode). IfOk o (λ f. f.0 ≡ (receiver e at))) is to
 
-        wrote : new ≡ with_rx_bytes x.ram (buffers_in x.kept.buffers receiver) (message_in tx)
-        wrote = subst (λ (o : Result EndpointId ErrorCode). OnOk o (new ≡ with_rx_bytes x.ram (buffers_in x.kept.buffers receiver) (message_in tx))) is filled_ram
+        wrote : new ≡ with_rx_bytes x.ram (buffers_in x.kept.buffers (receiver e at)) (message_in (tx e at))
+        wrote = subst (λ (o : Result EndpointId ErrorCode). OnOk o (new ≡ with_rx_bytes x.ram (buffers_in x.kept.buffers (receiver e at)) (message_in (tx e at)))) is filled_ram
 
-        fills : list ≡ buffers_with_rx x.kept.buffers receiver true
-        fills = subst (λ (o : Result EndpointId ErrorCode). OnOk o (list ≡ buffers_with_rx x.kept.buffers receiver true)) is full
+        fills : list ≡ buffers_with_rx x.kept.buffers (receiver e at) true
+        fills = subst (λ (o : Result EndpointId ErrorCode). OnOk o (list ≡ buffers_with_rx x.kept.buffers (receiver e at) true)) is full
 
         pub told-known : is_known s f.0 ≡ true
         told-known = subst (λ (k : ℕ). is_known s k ≡ true) (sym to-receiver) (receiver-known passes)
 
-        pub receiver-there : is_known s receiver ≡ true
+        pub receiver-there : is_known s (receiver e at) ≡ true
         receiver-there = receiver-known passes
 
         pub tables-kept : HasTables new x.manifest (access_by_place s)
-        tables-kept = subst (λ (ram : Ram). HasTables ram x.manifest (access_by_place s)) (sym wrote) (tables-still x machine receiver (receiver-known passes) (message_in tx))
+        tables-kept = subst (λ (ram : Ram). HasTables ram x.manifest (access_by_place s)) (sym wrote) (tables-still x machine (receiver e at) (receiver-known passes) (message_in (tx e at)))
 
         pub tables-sent : StillHasTables x new
-        tables-sent = subst (StillHasTables x) (sym wrote) (tables-filled x machine receiver (receiver-known passes) (message_in tx))
+        tables-sent = subst (StillHasTables x) (sym wrote) (tables-filled x machine (receiver e at) (receiver-known passes) (message_in (tx e at)))
 
         module _ (bitmaps : Notifications) (raised : bitmaps ≡ with_pending x.kept.bitmaps f.0 manager_class message_bits) where
-          told : (y : State) → state_of (record x { ram = new; kept = record x.kept { buffers = list } }) ≡ y → state_of (after_send bitmaps) ≡ with_notifications y (with_pending x.kept.bitmaps receiver manager_class message_bits)
+          told : (y : State) → state_of (record x { ram = new; kept = record x.kept { buffers = list } }) ≡ y → state_of (after_send bitmaps) ≡ with_notifications y (with_pending x.kept.bitmaps (receiver e at) manager_class message_bits)
           unfolding first
           told y same = λ i. with_notifications (same i) ((raised ∙ ap (λ (e : ℕ). with_pending x.kept.bitmaps e manager_class message_bits) to-receiver) i)
 
           delivers : state_of (after_send bitmaps) ≡ (msg_send2 s).state
           unfolding first
           delivers =
-              told (filled s receiver (message_in tx))
+              told (filled s (receiver e at) (message_in (tx e at)))
               ((λ i. state_of (record x { ram = wrote i; kept = record x.kept { buffers = fills i } }))
-              ∙ state-filled x machine receiver (receiver-known passes) (message_in tx))
-              ∙ (λ i. delivered s (header_in (sent-is i)).receiver (message_in (sent-is i)))
+              ∙ state-filled x machine (receiver e at) (receiver-known passes) (message_in (tx e at)))
+              ∙ (λ i. delivered s (header_in (sent-is e at i)).receiver (message_in (sent-is e at i)))
 
           pub sent : replied (state_of (after_send bitmaps)) (success 0 0) ≡ served s (msg_send2 s)
           sent = ap (λ (t : State). replied t (success 0 0)) delivers ∙ sym (ap (λ o. answered o s (msg_send2 s).state (msg_send2 s).reply) (sym same-refusal ∙ passes))
@@ -172,5 +175,5 @@ module _ (x : Parts) (machine : IsManager x) where
       send-unowned = of r refl
         where
           of : (o : Result EndpointId ErrorCode) → r ≡ o → KeepsUnowned s x.ram new
-          of (Ok f) is = subst (KeepsUnowned s x.ram) (sym (wrote f is)) (unowned-filled x machine receiver (receiver-known (passes f is)) x.ram (message_in tx))
+          of (Ok f) is = subst (KeepsUnowned s x.ram) (sym (wrote f is)) (unowned-filled x machine (receiver e at) (receiver-known (passes f is)) x.ram (message_in (tx e at)))
           of (Err code) is = unowned-same s x.ram new (subst (λ (o : Result EndpointId ErrorCode). OnErr o (new ≡ x.ram)) is kept_ram)

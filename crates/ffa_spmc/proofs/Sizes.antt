@@ -4,7 +4,7 @@ use Rattle.std.proofs.Common.{◌≡◌, ◌∙◌, ℕ, zero, suc, ◌+◌, ◌
 use Rattle.std.specs.Prelude.{if◌then◌else◌, slice_index_or}
 use Rattle.byteorder.specs.Endian.{little_bytes}
 use Rattle.ffa_model.specs.declared.call.Call as calls
-use Rattle.ffa_model.specs.declared.call.Call.TheVariants.{PartitionInfoGet, MemDonate, MemLend, MemShare, MemRetrieve, MemRelinquish, MemReclaim, MsgSend2, Version}
+use Rattle.ffa_model.specs.declared.call.Call.TheVariants.{PartitionInfoGet, MemDonate, MemLend, MemShare, MemRetrieve, MemRelinquish, MemReclaim, MsgSend2, Version, MsgWait}
 use Rattle.ffa_model.specs.declared.descriptor.RelinquishDesc.{RelinquishDesc}
 use Rattle.ffa_model.specs.declared.descriptor.RetrieveDesc.{RetrieveDesc}
 use Rattle.ffa_model.specs.declared.operation.Op.{Op}
@@ -31,7 +31,7 @@ use Rattle.ffa_model.specs.State.{State, Buffers, Page, Transaction, buffers_of,
 use Rattle.ffa_model.specs.Step.{service, step}
 use Rattle.ffa_model.specs.Transactions.{closed, not_holding, open_of, with_open, with_transaction}
 use Rattle.ffa_model.proofs.Accesses.{length-map_at}
-use Rattle.ffa_laws.proofs.Form.{accessed-kept, served-kept}
+use Rattle.ffa_laws.proofs.Form.{accessed-kept, served-kept, waited-kept}
 use Rattle.ffa_laws.proofs.Kept.{place-step}
 use Rattle.ffa_stage2.specs.Tables.{IsAside}
 use Rattle.ffa_laws.proofs.Versions.{version-leaves}
@@ -90,6 +90,7 @@ service-sizes s (PartitionInfoGet uuid flags) =
       | false ↦ of-pages s _ (filled-size s.pages (info_bytes (version_of s s.runner) s.parties (uuid_bytes uuid)) (buffers_of s s.runner))
     ]
 service-sizes s (Version word) = version-leaves (λ t. sizes t ≡ sizes s) s.ffa s word refl (λ version. refl)
+service-sizes s (MsgWait flags) = waited-kept (λ t. sizes t ≡ sizes s) s flags refl refl
 service-sizes s MsgSend2 =
     of-pages s _ (filled-size s.pages (message_in (tx_bytes s s.runner)) (buffers_of s (header_in (tx_bytes s s.runner)).receiver))
 service-sizes s (MemDonate x) = sent-sizes s Donate (send_read s Donate x.total)

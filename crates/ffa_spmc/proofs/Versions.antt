@@ -28,8 +28,8 @@ module _ (s : State) (word : ℕ) (ffa : s.ffa ≡ V1_2) where
   kept-by : (b : Bool) → is_served_version s word ≡ b → version_kept s.ffa s word ≡ cond b (with_version s s.runner (form_of word)) s
   kept-by b is = ap (λ f. version_kept f s word) ffa ∙ ap (λ c. cond c (with_version s s.runner (form_of word)) s) is
 
-  answer-by : (b : Bool) → is_served_version s word ≡ b → version_answer s.ffa s word ≡ cond b (Version 0x10001) (Version 0xFFFFFFFF)
-  answer-by b is = ap (λ f. version_answer f s word) ffa ∙ ap (λ c. cond c (Version 0x10001) (Version 0xFFFFFFFF)) is
+  answer-by : (b : Bool) → is_served_version s word ≡ b → version_answer s.ffa s word ≡ cond b (Version 0x10002) (Version 0xFFFFFFFF)
+  answer-by b is = ap (λ f. version_answer f s word) ffa ∙ ap (λ c. cond c (Version 0x10002) (Version 0xFFFFFFFF)) is
 
   pub replied-refused : (reply : Reply) → reply ≡ Version 0xFFFFFFFF → is_served_version s word ≡ false → replied s reply ≡ served s (ffa_version s word)
   replied-refused reply is fails = λ i. replied (sym (kept-by false fails) i) ((is ∙ sym (answer-by false fails)) i)
@@ -54,5 +54,5 @@ module _ (x : Parts) (word : ℕ) (ffa : (state_of x).ffa ≡ V1_2) (new : List 
     sound = subst IsSoundState (sym keeps) (call-sound (state_of x) machine.sound (calls.Version word));
   }
 
-  pub replied-kept : (reply : Reply) → reply ≡ Version 0x10001 → replied (state_of with_forms) reply ≡ served (state_of x) (ffa_version (state_of x) word)
+  pub replied-kept : (reply : Reply) → reply ≡ Version 0x10002 → replied (state_of with_forms) reply ≡ served (state_of x) (ffa_version (state_of x) word)
   replied-kept reply told = λ i. replied (keeps i) ((told ∙ sym (answer-by (state_of x) word ffa true passes)) i)

@@ -1,6 +1,6 @@
 // SPDX-License-Identifier: MIT OR Apache-2.0
 //! The partition manager: what it keeps, and what its calls and accesses do.
-ghost use Rattle.std.specs.Prelude.{true, false, ◌≡◌, is_some, None, Option, ◌<◌, ◌≤◌, length};
+ghost use Rattle.std.specs.Prelude.{true, false, ◌≡◌, None, Option, ◌<◌, ◌≤◌, length};
 ghost use Rattle.std.specs.Option.{option_or};
 ghost use Rattle.ffa_model.specs.declared.limits.TheConstants.{MOST_ENDPOINTS};
 ghost use Rattle.ffa_model.specs.Access.{access};
@@ -167,7 +167,7 @@ impl<M: PhysMem + Drop, S: Store> Manager<M, S> {
     fn version(&self) -> Version
         ensures { result ≡ version_of self.now.state self.now.state.runner }
     {
-        self.kept.versions.form_of(self.kept.chain.runner())
+        self.kept.versions.of_endpoint(self.kept.chain.runner())
     }
 
     // The owner of a page of the RAM; 0x8000 is the manager.
@@ -192,9 +192,9 @@ impl<M: PhysMem + Drop, S: Store> Manager<M, S> {
 
     // FFA_FEATURES of the runner.
     fn features(&self, function: u32) -> Reply
-        ensures { result ≡ features_reply (is_some self.now.state.normal) function }
+        ensures { result ≡ features_reply self.now.state.ffa (version_of self.now.state self.now.state.runner) function }
     {
-        ffa_setup::features(function, self.kept.manifest.tells_worlds())
+        ffa_setup::features(function, self.kept.manifest.ffa, self.version())
     }
 
     // A call of the runner, in its registers, after which the cache holds nothing that the call has made untrue, and what it
@@ -249,7 +249,7 @@ impl<M: PhysMem + Drop, S: Store> Manager<M, S> {
             Call::PartitionInfoGet { uuid, flags } => self.partition_info_get(*uuid, *flags),
             Call::IdGet => ffa_setup::id(self.kept.chain.runner()),
             Call::SpmIdGet => ffa_setup::spm_id(),
-            Call::MsgWait => self.msg_wait(),
+            Call::MsgWait { flags } => self.msg_wait(*flags),
             Call::Yield => self.yield_now(),
             Call::Run { target, context } => self.run_partition(*target, *context),
             Call::DirectRequest(message) => self.direct_request(message),

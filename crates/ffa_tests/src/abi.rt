@@ -37,7 +37,7 @@ C4000066 RxtxMap [691489734657, 695784701954, 3, 0, 0, 0, 0, 0]
 84000067 RxtxUnmap [1, 0, 0, 0, 0, 0, 0, 0]
 84000068 PartitionInfoGet [1, 2, 3, 4, 5, 0, 0, 0]
 84000069 IdGet [0, 0, 0, 0, 0, 0, 0, 0]
-8400006B MsgWait [0, 0, 0, 0, 0, 0, 0, 0]
+8400006B MsgWait [2, 0, 0, 0, 0, 0, 0, 0]
 8400006C Yield [0, 0, 0, 0, 0, 0, 0, 0]
 8400006D Run [1, 0, 0, 0, 0, 0, 0, 0]
 84000085 SpmIdGet [0, 0, 0, 0, 0, 0, 0, 0]
@@ -134,7 +134,7 @@ fn said(call: Call) -> (&'static str, [u64; 8]) {
 
 fn said_of_messages(call: Call) -> (&'static str, [u64; 8]) {
     match call {
-        Call::MsgWait => ("MsgWait", [0; 8]),
+        Call::MsgWait { flags } => ("MsgWait", [u64::from(flags), 0, 0, 0, 0, 0, 0, 0]),
         Call::Yield => ("Yield", [0; 8]),
         Call::Run { target, context } => {
             (

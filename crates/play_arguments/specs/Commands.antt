@@ -103,10 +103,10 @@ compare_app =
     (with_form_flags (with_machine_flags (with_expected (with_trace (with_manifest (new_app (codes "compare")))))))
 
 unfoldable pub check_app : App
-check_app = with_verbose (with_manifest (new_app (codes "check")))
+check_app = with_verbose (with_ffa (with_manifest (new_app (codes "check"))))
 
 unfoldable pub layout_app : App
-layout_app = with_verbose (with_flag (codes "regions") (with_manifest (new_app (codes "layout"))))
+layout_app = with_verbose (with_ffa (with_flag (codes "regions") (with_manifest (new_app (codes "layout")))))
 
 -- what a descriptor is for and where TX stands, and what it is to hold
 abbrev pub with_place : App → App
@@ -232,8 +232,8 @@ path_of (File path) = Some path.now
 -- a command with its paths and what its flags say
 pub data Ask : Type 0 where
   play : (manifest : Option Text) → (trace : Text) → MachineOptions → Aim → (words verbose : Bool) → Ask
-  check : Text → Bool → Ask
-  layout : Text → (regions verbose : Bool) → Ask
+  check : Text → (ffa : Ffa) → (verbose : Bool) → Ask
+  layout : Text → (regions : Bool) → (ffa : Ffa) → (verbose : Bool) → Ask
   descriptor : (manifest : Option Text) → Described → Ask
   generate : Text → (seed lines : ℕ) → (count : Bool) → (ffa : Ffa) → (verbose : Bool) → Ask
   test : (folders : List Text) → (tap count allow_unguarded : Bool) → (processors : Option ℕ) → (ffa : Ffa) → (words : Bool) → Ask
@@ -241,8 +241,8 @@ pub data Ask : Type 0 where
 
 abbrev pub ask_of : Request → Ask
 ask_of (Play o) = play (path_of o.source) o.trace.now o.machine (aim_of o.purpose) o.words o.verbose
-ask_of (Check manifest verbose) = check manifest.now verbose
-ask_of (Layout manifest regions verbose) = layout manifest.now regions verbose
+ask_of (Check manifest ffa verbose) = check manifest.now ffa verbose
+ask_of (Layout manifest regions ffa verbose) = layout manifest.now regions ffa verbose
 ask_of (Descriptor manifest words) = descriptor (option_map (λ s. s.now) manifest) (words_of words)
 ask_of (Generate o) = generate o.manifest.now o.seed o.lines o.count o.ffa o.verbose
 ask_of (Test o) = test (map (λ f. f.now) o.folders.items) o.tap o.count o.allow_unguarded o.processors o.ffa o.words
@@ -251,8 +251,8 @@ ask_of (Lower trace verbose) = lower trace.now verbose
 -- the path of the manifest that is asked for, that of the trace that is played, and that of the expected text
 abbrev pub manifest_of : Ask → Option Text
 manifest_of (play manifest trace machine aim words verbose) = manifest
-manifest_of (check manifest verbose) = Some manifest
-manifest_of (layout manifest regions verbose) = Some manifest
+manifest_of (check manifest ffa verbose) = Some manifest
+manifest_of (layout manifest regions ffa verbose) = Some manifest
 manifest_of (descriptor manifest words) = manifest
 manifest_of (generate manifest seed lines count ffa verbose) = Some manifest
 manifest_of (test folders tap count allow_unguarded processors ffa words) = None
@@ -269,8 +269,8 @@ expected_of _ = None
 -- whether more is to be said of what is refused
 abbrev pub verbose_of : Ask → Bool
 verbose_of (play manifest trace machine aim words verbose) = verbose
-verbose_of (check manifest verbose) = verbose
-verbose_of (layout manifest regions verbose) = verbose
+verbose_of (check manifest ffa verbose) = verbose
+verbose_of (layout manifest regions ffa verbose) = verbose
 verbose_of (descriptor manifest words) = false
 verbose_of (generate manifest seed lines count ffa verbose) = verbose
 verbose_of (test folders tap count allow_unguarded processors ffa words) = false
@@ -279,8 +279,8 @@ verbose_of (lower trace verbose) = verbose
 -- the same, of which more is to be said, where it can be
 abbrev pub said_more : Ask → Ask
 said_more (play manifest trace machine aim words verbose) = play manifest trace machine aim words true
-said_more (check manifest verbose) = check manifest true
-said_more (layout manifest regions verbose) = layout manifest regions true
+said_more (check manifest ffa verbose) = check manifest ffa true
+said_more (layout manifest regions ffa verbose) = layout manifest regions ffa true
 said_more (descriptor manifest words) = descriptor manifest words
 said_more (generate manifest seed lines count ffa verbose) = generate manifest seed lines count ffa true
 said_more (test folders tap count allow_unguarded processors ffa words) = test folders tap count allow_unguarded processors ffa words
@@ -416,12 +416,14 @@ play_file_in rows aim = do
 unfoldable pub check_in : List Row → Option Ask
 check_in rows = do
   manifest ← first_of (codes "manifest") rows
-  Some (check manifest (is_given (codes "verbose") rows))
+  ffa ← ffa_in rows
+  Some (check manifest ffa (is_given (codes "verbose") rows))
 
 unfoldable pub layout_in : List Row → Option Ask
 layout_in rows = do
   manifest ← first_of (codes "manifest") rows
-  Some (layout manifest (is_given (codes "regions") rows) (is_given (codes "verbose") rows))
+  ffa ← ffa_in rows
+  Some (layout manifest (is_given (codes "regions") rows) ffa (is_given (codes "verbose") rows))
 
 unfoldable pub words_in : List Row → (kind : Text) → Described
 words_in rows kind = record {

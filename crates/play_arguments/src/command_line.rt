@@ -29,6 +29,12 @@ const NUMBERS: [(&str, &str); 4] = [
     ),
 ];
 
+/// The message for a bad number of processors.
+pub const PROCESSORS_WANTED: &str =
+    "'--processors' must be a number from 1 to 8, without a sign or leading zeros";
+/// The message for a bad version of FF-A.
+pub const FFA_WANTED: &str = "'--ffa' must be 1.1 or 1.2";
+
 /// The path that means standard input.
 pub const STANDARD_INPUT: &str = "-";
 
@@ -197,15 +203,18 @@ pub struct TestOptions<'a> {
 pub enum Request<'a> {
     /// Plays a trace.
     Play(PlayOptions<'a>),
-    /// Checks whether a manifest is accepted.
+    /// Checks whether a manifest is accepted. The version of FF-A is as in `MachineOptions`.
     Check {
         manifest: &'a str,
+        ffa: Ffa,
         verbose: bool,
     },
-    /// Prints the addresses of the tables of a manifest's machine, and with `regions` its regions and RAM.
+    /// Prints the addresses of the tables of a manifest's machine, and with `regions` its regions and RAM. The version of FF-A
+    /// is as in `MachineOptions`.
     Layout {
         manifest: &'a str,
         regions: bool,
+        ffa: Ffa,
         verbose: bool,
     },
     /// Prints the lines of a trace that make a call on memory. If there is a manifest, the descriptor has the form of the
@@ -321,17 +330,20 @@ impl<'a> Request<'a> {
                 verbose: true,
                 ..options
             }),
-            Request::Check { manifest, .. } => Request::Check {
+            Request::Check { manifest, ffa, .. } => Request::Check {
                 manifest,
+                ffa,
                 verbose: true,
             },
             Request::Layout {
                 manifest,
                 regions,
+                ffa,
                 ..
             } => Request::Layout {
                 manifest,
                 regions,
+                ffa,
                 verbose: true,
             },
             Request::Generate(options) => Request::Generate(GenerateOptions {
@@ -482,11 +494,11 @@ pub(crate) fn unread_value(matches: &ArgMatches<'_>) -> Option<&'static str> {
         }
     }
     if processors_in(inner).is_none() {
-        return Some("'--processors' must be a number from 1 to 8, without a sign or leading zeros");
+        return Some(PROCESSORS_WANTED);
     }
     match ffa_in(inner) {
         Some(_) => None,
-        None => Some("'--ffa' must be 1.1 or 1.2"),
+        None => Some(FFA_WANTED),
     }
 }
 
@@ -497,9 +509,9 @@ fn number_in(matches: &ArgMatches<'_>, id: &str) -> Option<u64>
     read_number(text_of(matches, id)?)
 }
 
-// Reads a number of processors, from 1 to the most that a machine has.
+/// Reads a number of processors, from 1 to the most that a machine has.
 #[tactic(auto, unfolding(crate::specs::Commands::count_of))]
-fn read_count(text: &str) -> Option<usize>
+pub fn read_processors(text: &str) -> Option<usize>
     ensures { result ≡ count_of text.now }
 {
     match read_number(text) {
@@ -514,14 +526,14 @@ fn processors_in(matches: &ArgMatches<'_>) -> Option<Option<usize>>
     ensures { result ≡ processors_in (rows_of (found_of matches.now)) }
 {
     match text_of(matches, "processors") {
-        Some(text) => read_count(text).map(Some),
+        Some(text) => read_processors(text).map(Some),
         None => Some(None),
     }
 }
 
-// Reads a version of FF-A that a machine can serve.
+/// Reads a version of FF-A that a machine can serve.
 #[tactic(auto, unfolding(crate::specs::Commands::ffa_of))]
-fn read_ffa(text: &str) -> Option<Ffa>
+pub fn read_ffa(text: &str) -> Option<Ffa>
     ensures { result ≡ ffa_of text.now }
 {
     match text {
@@ -637,19 +649,21 @@ fn play_file_in<'a>(matches: &ArgMatches<'a>, purpose: Purpose<'a>) -> Option<Re
 fn check_in<'a>(matches: &ArgMatches<'a>) -> Option<Request<'a>>
     ensures { option_map ask_of result ≡ check_in (rows_of (found_of matches.now)) }
 {
-    let manifest = text_of(matches, "manifest")?;
-    let verbose = is_given(matches, "verbose");
-    Some(Request::Check { manifest, verbose })
+    Some(Request::Check {
+        manifest: text_of(matches, "manifest")?,
+        ffa: ffa_in(matches)?,
+        verbose: is_given(matches, "verbose"),
+    })
 }
 
 #[tactic(auto, unfolding(crate::specs::Commands::layout_in))]
 fn layout_in<'a>(matches: &ArgMatches<'a>) -> Option<Request<'a>>
     ensures { option_map ask_of result ≡ layout_in (rows_of (found_of matches.now)) }
 {
-    let manifest = text_of(matches, "manifest")?;
     Some(Request::Layout {
-        manifest,
+        manifest: text_of(matches, "manifest")?,
         regions: is_given(matches, "regions"),
+        ffa: ffa_in(matches)?,
         verbose: is_given(matches, "verbose"),
     })
 }

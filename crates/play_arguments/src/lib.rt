@@ -15,8 +15,9 @@ mod program;
 pub use clap::error::ErrorKind;
 use clap::{ArgMatches, Command, Error};
 pub use command_line::{
-    DescriptorWords, GenerateOptions, MachineOptions, PictureOptions, PlayOptions, Purpose,
-    Request, STANDARD_INPUT, Source, TestOptions, TextOptions,
+    DescriptorWords, FFA_WANTED, GenerateOptions, MachineOptions, PROCESSORS_WANTED,
+    PictureOptions, PlayOptions, Purpose, Request, STANDARD_INPUT, Source, TestOptions,
+    TextOptions, read_ffa, read_processors,
 };
 pub use program::{TOOLCHAIN, VERSION};
 use std::alloc::{AllocError, Global};

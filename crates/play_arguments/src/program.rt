@@ -179,7 +179,7 @@ const COMPARE: Entry = Entry {
 const CHECK: Entry = Entry {
     name: "check",
     about: "Check whether a manifest is accepted",
-    words: &[MANIFEST, VERBOSE],
+    words: &[MANIFEST, FFA, VERBOSE],
 };
 
 const REGIONS: Word = Word::Flag(
@@ -190,7 +190,7 @@ const REGIONS: Word = Word::Flag(
 const LAYOUT: Entry = Entry {
     name: "layout",
     about: "Print the addresses of each endpoint's tables",
-    words: &[MANIFEST, REGIONS, VERBOSE],
+    words: &[MANIFEST, REGIONS, FFA, VERBOSE],
 };
 
 const KIND: Word = Word::Path(
@@ -275,7 +275,7 @@ const ALLOW_UNGUARDED: Word = Word::Flag("allow-unguarded", "Let a trace without
 
 const TEST: Entry = Entry {
     name: "test",
-    about: "Play all traces of folders and check their guards",
+    about: "Play traces of folders, check guards; `# with` gives flags",
     words: &[
         FOLDERS,
         TAP,

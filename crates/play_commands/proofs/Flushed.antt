@@ -92,8 +92,8 @@ module _ (ran : Ran) (holds : Option (List ℕ)) (kept : Keeps ran.streams.holds
 
   pub done : (request : Request) → IsDone request ran → IsDone request (with_holds ran holds)
   done (request.Play o) p = leaves o done_by p
-  done (request.Check manifest verbose) (parts, is, p) = (parts, is, written _ p)
-  done (request.Layout manifest regions verbose) (parts, is, p) = (parts, is, written _ p)
+  done (request.Check manifest ffa verbose) (parts, is, p) = (parts, is, written _ p)
+  done (request.Layout manifest regions ffa verbose) (parts, is, p) = (parts, is, written _ p)
   done (request.Descriptor path words) (own, are, (said, is, (text, grows, p))) = (own, are, (said, is, (text, grows, written _ p)))
   done (request.Generate o) (parts, is, p) = (parts, is, λ prints. wrote (p prints))
   done (request.Test o) p = quiet p

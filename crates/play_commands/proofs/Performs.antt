@@ -2,6 +2,8 @@
 -- What a command leaves, from what its parts do.
 use Rattle.std.proofs.Common.{◌≡◌, Bor, true, false, List, ℕ, Option, None, Some, Result, Ok, Err, inl, inr, refl, ap, arith, IfErr, OnOk, is_some, option_map}
 use Rattle.std.specs.Io.KnownBytes.{Keeps}
+use Rattle.ffa_model.specs.declared.manifest.Ffa.{Ffa}
+use Rattle.ffa_model.specs.declared.manifest.Ffa.TheVariants.{V1_1}
 use Rattle.ffa_manifest.specs.Document.{Parts}
 use Rattle.ffa_playable.specs.Bench.{Bench}
 use Rattle.play_report.specs.Descriptors.{AreWords, FailsToSay, FailsToSayFor, IsSaidFor}
@@ -20,12 +22,12 @@ use Rattle.play_tasks.specs.Plays.{KnownTask, OverfullBy, PlayFails, Plays, Stre
 use Rattle.play_tasks.specs.Starts.{begun_by}
 use Rattle.play_tasks.specs.Purposes.{IsTaskFor}
 use Rattle.play_tasks.specs.declared.task.Task.TheVariants.{Drawn}
-use Rattle.play_commands.specs.Performed.{Does, FailsFor, FailsToName, HasParts, IsDone, IsQuiet, IsRead, Played, Ran, SomeBadLine, SomeUnmetGuard, first_of, needs_manifest, needs_trace, with_ffa}
+use Rattle.play_commands.specs.Performed.{Does, FailsFor, FailsToName, HasParts, IsDone, IsQuiet, IsRead, Played, Ran, SomeBadLine, SomeUnmetGuard, ffa_of, first_of, needs_manifest, needs_trace}
 
 -- COMMANDS THAT PLAY NO TRACE, OR NOT YET
 
 -- a manifest that can't be read, or is refused
-pub unread : (request : Request) → needs_manifest request ≡ true → (ran : Ran) → IsQuiet ran → (failure : Failure) → FailsUnplayed ran.manifest None None failure
+pub unread : (request : Request) → needs_manifest request ≡ true → (ran : Ran) → IsQuiet ran → (failure : Failure) → FailsUnplayed (ffa_of request) ran.manifest None None failure
     → Does request ran (Err failure)
 unread request needs ran quiet (Manifest cause) (refused, same) = record { done = tt; opened = tt; failed = (needs, refused, quiet); read = tt }
 unread request needs ran quiet (Read path) any = record { done = tt; opened = tt; failed = tt; read = tt }
@@ -33,8 +35,12 @@ unread request needs ran quiet Write accepted = record { done = tt; opened = tt;
 unread request needs ran quiet NoMemory any = record { done = tt; opened = tt; failed = tt; read = tt }
 unread request needs ran quiet other never = absurd never
 
+-- a command that plays no trace fails
+abbrev pub FailsIn : Request → Ran → Result (Unit {0}) Failure → Type 0
+FailsIn request ran result = IfErr result (FailsUnplayed (ffa_of request) ran.manifest ran.streams.held ran.streams.holds)
+
 pub unplayed : (request : Request) → needs_manifest request ≡ true → needs_trace request ≡ false → (ran : Ran) (result : Result (Unit {0}) Failure) → OnOk result (IsDone request ran)
-    → IfErr result (FailsUnplayed ran.manifest ran.streams.held ran.streams.holds) → Does request ran result
+    → FailsIn request ran result → Does request ran result
 unplayed request needs untraced ran (Ok x) done fails = record { done = done; opened = λ needed. absurd cc; failed = tt; read = tt }
 unplayed request needs untraced ran (Err (Manifest cause)) done (refused, same) = record { done = tt; opened = tt; failed = (needs, refused, same); read = tt }
 unplayed request needs untraced ran (Err (Read path)) done any = record { done = tt; opened = tt; failed = tt; read = tt }
@@ -47,7 +53,7 @@ needs_path None named = named
 needs_path (Some path) named = refl
 
 accepted_by : (path : Option (Bor (List ℕ))) (manifest : Option (List ℕ)) (words : DescriptorWords) (own : Described) → AreWords path manifest words own
-    → is_some (option_map (λ (s : Bor (List ℕ)). s.now) path) ≡ true → IsAccepted manifest
+    → is_some (option_map (λ (s : Bor (List ℕ)). s.now) path) ≡ true → IsAccepted V1_1 manifest
 accepted_by None manifest words own are needed = absurd cc
 accepted_by (Some path) manifest words own (parts, is, same) needed = (parts, is)
 
@@ -68,13 +74,13 @@ describes path words ran (Err failure) said (inr (named, fails, same)) = unread 
 -- COMMANDS THAT PLAY A TRACE
 
 -- a machine isn't known
-pub unnamed : (o : PlayOptions) (ran : Ran) → IsQuiet ran → (failure : Failure) (source : Source) → o.source ≡ source → FailsToName source ran.manifest failure → Does (request.Play o) ran (Err failure)
+pub unnamed : (o : PlayOptions) (ran : Ran) → IsQuiet ran → (failure : Failure) (source : Source) → o.source ≡ source → FailsToName o.machine.ffa source ran.manifest failure → Does (request.Play o) ran (Err failure)
 unnamed o ran quiet failure BuiltIn is never = absurd never
 unnamed o ran quiet failure (File path) is fails = unread (request.Play o) (ap (λ source. is_some (path_of source)) is) ran quiet failure fails
 
-accepted : (source : Source) (manifest : Option (List ℕ)) (parts : Parts) → HasParts source manifest parts → is_some (path_of source) ≡ true → IsAccepted manifest
-accepted BuiltIn manifest parts built needed = absurd cc
-accepted (File path) manifest parts is needed = (parts, is)
+accepted : (ffa : Ffa) (source : Source) (manifest : Option (List ℕ)) (parts : Parts) → HasParts ffa source manifest parts → is_some (path_of source) ≡ true → IsAccepted ffa manifest
+accepted ffa BuiltIn manifest parts built needed = absurd cc
+accepted ffa (File path) manifest parts is needed = (parts, is)
 
 overfull_quiet : (task : KnownTask) (start : Bench) (streams : Streams) (most : ℕ) → OverfullBy task start streams most → Keeps streams.held streams.holds
 overfull_quiet (Drawn keep width) start streams most over = over.3
@@ -89,9 +95,9 @@ could_read (BadLine n fault) = refl
 could_read (Unmet n) = refl
 could_read other = tt
 
-module _ (o : PlayOptions) (manifest : Option (List ℕ)) (expected : Option (Option (List ℕ))) (streams : Streams) (parts : Parts) (source : HasParts o.source manifest parts) (task : KnownTask) (serves : IsTaskFor o.purpose expected task) where
+module _ (o : PlayOptions) (manifest : Option (List ℕ)) (expected : Option (Option (List ℕ))) (streams : Streams) (parts : Parts) (source : HasParts o.machine.ffa o.source manifest parts) (task : KnownTask) (serves : IsTaskFor o.purpose expected task) where
   abbrev pub begun : Bench
-  begun = begun_by o.machine.processors (first_of (with_ffa o.machine.ffa parts))
+  begun = begun_by o.machine.processors (first_of parts)
 
   leaving : {L : KnownTask → Bench → Type 0} → L task begun → Played o (opened manifest expected streams) L
   leaving left = record { parts = parts; source = source; task = task; serves = serves; left = left }
@@ -99,7 +105,7 @@ module _ (o : PlayOptions) (manifest : Option (List ℕ)) (expected : Option (Op
   play_fails : (trace : Bor (List ℕ)) (failure : Failure) → PlayFails task trace begun streams failure → FailsFor (request.Play o) (opened manifest expected streams) failure
   play_fails trace (BadLine n fault) stops = leaving stops
   play_fails trace (Read path) any = tt
-  play_fails trace Write any = accepted o.source manifest parts source
+  play_fails trace Write any = accepted o.machine.ffa o.source manifest parts source
   play_fails trace NoMemory any = tt
   play_fails trace Differs differs = leaving differs
   play_fails trace (Unmet n) unmet = leaving unmet

@@ -28,6 +28,7 @@ use Rattle.play_tasks.specs.Plays.{DiffersBy, IsDoneBy, KnownTask, OverfullBy, S
 use Rattle.play_tasks.specs.Starts.{begun_by}
 use Rattle.play_tasks.specs.Purposes.{IsTaskFor, is_session_for, is_strict_for}
 use Rattle.play_arguments.specs.Commands.{Described, ask_of, manifest_of, trace_of}
+use Rattle.play_arguments.specs.declared.command_line.GenerateOptions.{GenerateOptions}
 use Rattle.play_arguments.specs.declared.command_line.PlayOptions.{PlayOptions}
 use Rattle.play_arguments.specs.declared.command_line.Source.{Source}
 use Rattle.play_arguments.specs.declared.command_line.Source.TheVariants as source
@@ -39,18 +40,23 @@ use Rattle.play_files.specs.declared.commands.Files.{Files}
 abbrev pub first_of : Parts → State
 first_of parts = first parts.ffa parts.ram_base parts.tables parts.ram_blocks parts.endpoints
 
--- serving this version of FF-A
-abbrev pub with_ffa : Ffa → Parts → Parts
-with_ffa ffa parts = record parts { ffa = ffa }
-
-abbrev pub built_in_parts : Parts
-built_in_parts = record { ram_base = 0x40000000; ram_blocks = 1; tables = 0; endpoints = built_in_endpoints; ffa = V1_1 }
+-- the built-in machine, where it serves this version of FF-A
+abbrev pub built_in_parts : Ffa → Parts
+built_in_parts ffa = record { ram_base = 0x40000000; ram_blocks = 1; tables = 0; endpoints = built_in_endpoints; ffa = ffa }
 
 -- COMMANDS
 
 -- whether a command reads a manifest
 abbrev pub needs_manifest : Request → Bool
 needs_manifest request = is_some (manifest_of (ask_of request))
+
+-- the version of FF-A that the machine of a command's manifest serves
+abbrev pub ffa_of : Request → Ffa
+ffa_of (request.Play o) = o.machine.ffa
+ffa_of (request.Check manifest ffa verbose) = ffa
+ffa_of (request.Layout manifest regions ffa verbose) = ffa
+ffa_of (request.Generate o) = o.ffa
+ffa_of other = V1_1
 
 -- whether a command plays a trace
 abbrev pub needs_trace : Request → Bool
@@ -86,29 +92,29 @@ abbrev pub IsQuiet : Ran → Type 0
 IsQuiet ran = Keeps ran.streams.held ran.streams.holds
 
 -- a trace of so many lines was made up for the manifest's machine, and written unless its calls were to be counted
-abbrev pub IsMade : ℕ → Bool → (manifest held holds : Option (List ℕ)) → Type 0
-IsMade lines count manifest held holds =
-    (parts : Parts) × Describes manifest parts × (count ≡ false → Wrote lines held holds)
+abbrev pub IsMade : GenerateOptions → (manifest held holds : Option (List ℕ)) → Type 0
+IsMade o manifest held holds =
+    (parts : Parts) × Describes o.ffa manifest parts × (o.count ≡ false → Wrote o.lines held holds)
 
--- the machine of a source has these parts
-abbrev pub HasParts : Source → (manifest : Option (List ℕ)) → Parts → Type 0
-HasParts source.BuiltIn manifest parts = parts ≡ built_in_parts
-HasParts (source.File path) manifest parts = Describes manifest parts
+-- the machine of a source that serves this version of FF-A has these parts
+abbrev pub HasParts : Ffa → Source → (manifest : Option (List ℕ)) → Parts → Type 0
+HasParts ffa source.BuiltIn manifest parts = parts ≡ built_in_parts ffa
+HasParts ffa (source.File path) manifest parts = Describes ffa manifest parts
 
 -- a trace was played on the machine of its source, by as many processors as are asked for, by a task that serves its
 -- purpose, and left this
 pub record Played (o : PlayOptions) (ran : Ran) (Left : KnownTask → Bench → Type 0) : Type 0 where
   pub parts : Parts
-  pub source : HasParts o.source ran.manifest parts
+  pub source : HasParts o.machine.ffa o.source ran.manifest parts
   pub task : KnownTask
   pub serves : IsTaskFor o.purpose ran.expected task
-  pub left : Left task (begun_by o.machine.processors (first_of (with_ffa o.machine.ffa parts)))
+  pub left : Left task (begun_by o.machine.processors (first_of parts))
 
 -- a trace was counted on the machine of its source, as far as this says
 abbrev pub IsCounted : PlayOptions → (manifest trace : Option (List ℕ)) → Tally → Tally → Result (Unit {0}) PlayError → Type 0
 IsCounted o manifest trace old new came =
-    (parts : Parts) × HasParts o.source manifest parts
-    × CountsTrace (begun_by o.machine.processors (first_of (with_ffa o.machine.ffa parts))) trace old new came
+    (parts : Parts) × HasParts o.machine.ffa o.source manifest parts
+    × CountsTrace (begun_by o.machine.processors (first_of parts)) trace old new came
 
 -- a trace was counted to its end, or as far as its lines are good, or could be read; or there is no machine for it, and nothing was
 abbrev pub CountsFor : PlayOptions → (manifest trace : Option (List ℕ)) → Tally → Tally → Result (Unit {0}) Failure → Type 0
@@ -128,11 +134,11 @@ HasGuards trace guards =
 -- printed by none of this
 abbrev pub IsDone : Request → Ran → Type 0
 IsDone (request.Play o) ran = Played o ran (λ task start. IsDoneBy task start ran.streams)
-IsDone (request.Check manifest verbose) ran = IsChecked ran.manifest ran.streams.held ran.streams.holds
-IsDone (request.Layout manifest regions verbose) ran = IsLaidOut regions ran.manifest ran.streams.held ran.streams.holds
+IsDone (request.Check manifest ffa verbose) ran = IsChecked ffa ran.manifest ran.streams.held ran.streams.holds
+IsDone (request.Layout manifest regions ffa verbose) ran = IsLaidOut ffa regions ran.manifest ran.streams.held ran.streams.holds
 IsDone (request.Descriptor path words) ran =
     IsSaidFor path words ran.manifest ran.streams.held ran.streams.holds
-IsDone (request.Generate o) ran = IsMade o.lines o.count ran.manifest ran.streams.held ran.streams.holds
+IsDone (request.Generate o) ran = IsMade o ran.manifest ran.streams.held ran.streams.holds
 IsDone (request.Test o) ran = IsQuiet ran
 IsDone (request.Lower trace verbose) ran = IsQuiet ran
 
@@ -169,15 +175,15 @@ IsUnsaid (request.Play o) ran = (most : ℕ) × Played o ran (λ task start. Ove
 IsUnsaid other ran = ⊥
 
 -- the manifest is refused, and nothing was written
-abbrev pub SomeRefusal : Ran → Type 0
-SomeRefusal ran = SomeCause ran.manifest × IsQuiet ran
+abbrev pub SomeRefusal : Request → Ran → Type 0
+SomeRefusal request ran = SomeCause (ffa_of request) ran.manifest × IsQuiet ran
 
 -- WHAT PRIVATE FUNCTIONS PROMISE ONE ANOTHER: a reader, a writer and memory may always fail
 
 -- the machine of a source isn't known: where a manifest is named, that can't be read, or is refused
-abbrev pub FailsToName : Source → (manifest : Option (List ℕ)) → Failure → Type 0
-FailsToName source.BuiltIn manifest failure = ⊥
-FailsToName (source.File path) manifest failure = FailsUnplayed manifest None None failure
+abbrev pub FailsToName : Ffa → Source → (manifest : Option (List ℕ)) → Failure → Type 0
+FailsToName ffa source.BuiltIn manifest failure = ⊥
+FailsToName ffa (source.File path) manifest failure = FailsUnplayed ffa manifest None None failure
 
 -- a command fails: a manifest is refused for its own cause, and then nothing was written, or a play stops, or a text
 -- differs, or the output can't be written, and then the manifest, where one is named, isn't refused.
@@ -185,10 +191,10 @@ FailsToName (source.File path) manifest failure = FailsUnplayed manifest None No
 -- constructors have the name of their module (`request.Play`). Without it a misspelt constructor would be a variable.
 abbrev pub FailsFor : Request → Ran → Failure → Type 0
 FailsFor request ran (failure.Manifest cause) =
-    (needs_manifest request ≡ true) × IsRefused ran.manifest cause × IsQuiet ran
+    (needs_manifest request ≡ true) × IsRefused (ffa_of request) ran.manifest cause × IsQuiet ran
 FailsFor request ran (failure.BadLine n fault) = StopsAt request ran n
 FailsFor request ran (failure.Read path) = ⊤
-FailsFor request ran failure.Write = needs_manifest request ≡ true → IsAccepted ran.manifest
+FailsFor request ran failure.Write = needs_manifest request ≡ true → IsAccepted (ffa_of request) ran.manifest
 FailsFor request ran failure.NoMemory = ⊤
 FailsFor request ran failure.Differs = Differs request ran
 FailsFor request ran (failure.Unmet n) = UnmetAt request ran n

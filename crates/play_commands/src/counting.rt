@@ -25,8 +25,14 @@ impl<M: Machines, A: Allocator + Copy> Program<M, A> {
         ensures { CountsFor options.entry (Some manifest.now) (R.remaining trace) (tally_of counts.old) (tally_of counts.new) result }
     {
         let mut notes = Notes::new(self.alloc, false);
-        let manifest = machine_of(self.manifests, options.source, Some(manifest), &mut notes)?;
-        let manifest = manifest.with_ffa(options.machine.ffa);
+        let ffa = options.machine.ffa;
+        let manifest = machine_of(
+            self.manifests,
+            options.source,
+            Some(manifest),
+            ffa,
+            &mut notes,
+        )?;
         let processors = options.machine.processors;
         let mut everyone = Everyone::of(&manifest);
         everyone.runs_alone = processors.is_none();

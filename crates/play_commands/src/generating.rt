@@ -26,11 +26,11 @@ impl<M: Machines, A: Allocator + Copy> Program<M, A> {
         notes: &mut Notes<A>,
     ) -> Result<(), Failure<'a>>
         ensures done { let given = bytes_of manifest.entry in
-            OnOk result (IsMade options.entry.lines options.entry.count given (W.contents out.old) (W.contents out.new)) }
-        ensures failed { IfErr result (FailsUnplayed (bytes_of manifest.entry) (W.contents out.old) (W.contents out.new)) }
+            OnOk result (IsMade options.entry given (W.contents out.old) (W.contents out.new)) }
+        ensures failed { IfErr result (FailsUnplayed options.entry.ffa (bytes_of manifest.entry) (W.contents out.old) (W.contents out.new)) }
     {
-        let manifest = read_manifest(self.manifests, options.manifest, manifest, notes)?;
-        let manifest = manifest.with_ffa(options.ffa);
+        let (path, ffa) = (options.manifest, options.ffa);
+        let manifest = read_manifest(self.manifests, path, manifest, ffa, notes)?;
         if options.count {
             self.print_outcomes(&manifest, options, out)
         } else {

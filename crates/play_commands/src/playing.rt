@@ -6,7 +6,7 @@ ghost use Rattle.play_report.specs.Manifests.{bytes_of};
 ghost use Rattle.play_commands.specs.Performed.{Does, FailsToName, HasParts, is_session, ran};
 
 use crate::program::Program;
-use ffa_model::Manifest;
+use ffa_model::{Ffa, Manifest};
 use play_arguments::{PlayOptions, Request, Source};
 use play_demo::built_in;
 use play_files::Files;
@@ -34,8 +34,8 @@ impl<M: Machines, A: Allocator + Copy> Program<M, A> {
             expected,
             ..
         } = files;
-        let manifest = machine_of(self.manifests, options.source, manifest, notes)?;
-        let manifest = manifest.with_ffa(options.machine.ffa);
+        let ffa = options.machine.ffa;
+        let manifest = machine_of(self.manifests, options.source, manifest, ffa, notes)?;
         let trace = open(options.trace, trace)?;
         let task = Task::for_purpose(options.purpose, options.verbose, expected)?;
         let play = Play {
@@ -49,19 +49,21 @@ impl<M: Machines, A: Allocator + Copy> Program<M, A> {
     }
 }
 
-// The manifest of the machine of a source, of whose file these are the bytes, if it could be read.
+// The manifest of the machine of a source, which serves this version of FF-A. These are the bytes of the source's file, if it
+// could be read.
 pub(crate) fn machine_of<'a, A: Allocator>(
     alloc: Global,
     source: Source<'a>,
     bytes: Option<&[u8]>,
+    ffa: Ffa,
     notes: &mut Notes<A>,
 ) -> Result<Manifest, Failure<'a>>
-    ensures described { IfOk result (λ m. HasParts source.entry (bytes_of bytes.entry) (parts_of m)) }
-    ensures failed { IfErr result (FailsToName source.entry (bytes_of bytes.entry)) }
+    ensures described { IfOk result (λ m. HasParts ffa source.entry (bytes_of bytes.entry) (parts_of m)) }
+    ensures failed { IfErr result (FailsToName ffa source.entry (bytes_of bytes.entry)) }
 {
     match source {
-        Source::BuiltIn => Ok(built_in()),
-        Source::File(path) => read_manifest(alloc, path, bytes, notes),
+        Source::BuiltIn => Ok(built_in().with_ffa(ffa)),
+        Source::File(path) => read_manifest(alloc, path, bytes, ffa, notes),
     }
 }
 

@@ -52,7 +52,7 @@ impl<M: Machines, A: Allocator + Copy> Commands for Program<M, A> {
     ) -> u8
         ensures done { result ≡ 0 → IsDone request.now (ran R.remaining files.entry W.contents out.old out.new) }
         ensures read { result ≡ 0 → needs_trace request.now ≡ true → is_some files.entry.trace ≡ true }
-        ensures refused { result ≡ 1 → SomeRefusal (ran R.remaining files.entry W.contents out.old out.new) }
+        ensures refused { result ≡ 1 → SomeRefusal request.now (ran R.remaining files.entry W.contents out.old out.new) }
         ensures named { result ≡ 1 → needs_manifest request.now ≡ true }
         ensures bad { result ≡ 2 → SomeBadLine request.now (ran R.remaining files.entry W.contents out.old out.new) }
         ensures differs { result ≡ 4 → Differs request.now (ran R.remaining files.entry W.contents out.old out.new) }
@@ -191,12 +191,17 @@ impl<M: Machines, A: Allocator + Copy> Program<M, A> {
         let (alloc, manifest) = (self.manifests, files.manifest);
         match *request {
             Request::Play(options) => self.play(options, files, out, err, notes),
-            Request::Check { manifest: path, .. } => accept(alloc, path, manifest, out, notes),
+            Request::Check {
+                manifest: path,
+                ffa,
+                ..
+            } => accept(alloc, path, manifest, ffa, out, notes),
             Request::Layout {
                 manifest: path,
                 regions,
+                ffa,
                 ..
-            } => lay_out(alloc, path, manifest, regions, out, notes),
+            } => lay_out(alloc, path, manifest, ffa, regions, out, notes),
             Request::Descriptor {
                 manifest: path,
                 words,

@@ -5,7 +5,7 @@ use Rattle.std.specs.Option.{option_and_then, option_map, option_map_or}
 use Rattle.ffa_model.specs.declared.endpoint.Endpoint.{Endpoint}
 use Rattle.ffa_model.specs.declared.endpoint.EndpointId.{EndpointId}
 use Rattle.ffa_model.specs.declared.endpoint.Version.{Version}
-use Rattle.ffa_model.specs.declared.endpoint.Version.TheVariants.{Compact, V1_1}
+use Rattle.ffa_model.specs.declared.endpoint.Version.TheVariants.{Compact}
 use Rattle.ffa_model.specs.Identifiers.{place}
 use Rattle.ffa_model.specs.State.{is_known_among}
 use Rattle.play_arguments.specs.Commands.{Described}
@@ -14,7 +14,7 @@ use Rattle.play_descriptor.specs.declared.members.Asker.{Asker}
 
 abbrev pub is_compact : Version → Bool
 is_compact Compact = true
-is_compact V1_1 = false
+is_compact version = false
 
 -- whether an endpoint of a manifest writes the compact form
 unfoldable pub writes_compact : List Endpoint → ℕ → Bool

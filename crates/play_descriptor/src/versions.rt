@@ -51,6 +51,6 @@ fn is_compact(version: Version) -> bool
 {
     match version {
         Version::Compact => true,
-        Version::V1_1 => false,
+        Version::V1_1 | Version::V1_2 => false,
     }
 }

@@ -6,7 +6,7 @@ use Rattle.std.specs.List.{list_all}
 use Rattle.std.specs.FinMap as finite
 use Rattle.std.proofs.lemmas.Option.{none-some, same_Some}
 use Rattle.ffa_model.specs.declared.call.Call as calls
-use Rattle.ffa_model.specs.declared.call.Call.TheVariants.{PartitionInfoGet, MemDonate, MemLend, MemShare, MemRetrieve, MemRelinquish, MemReclaim, MsgSend2, Version}
+use Rattle.ffa_model.specs.declared.call.Call.TheVariants.{PartitionInfoGet, MemDonate, MemLend, MemShare, MemRetrieve, MemRelinquish, MemReclaim, MsgSend2, MsgWait, Version}
 use Rattle.ffa_model.specs.declared.certificate.CertRun.{CertRun}
 use Rattle.ffa_model.specs.declared.function.TheConstants.{FFA_INTERRUPT, FFA_NOTIFICATION_BITMAP_CREATE, FFA_NOTIFICATION_GET}
 use Rattle.ffa_model.specs.declared.limits.TheConstants.{MOST_ENDPOINTS, MOST_PROCESSORS}
@@ -38,7 +38,7 @@ use Rattle.ffa_model.specs.State.{State, Page, Transaction, buffers_of, owner_of
 use Rattle.ffa_model.specs.Step.{serve, service, step}
 use Rattle.ffa_model.proofs.Reasons.{refused-unchanged}
 use Rattle.ffa_laws.proofs.Changes.{AreRewritten, same_owner, standing, unwritten}
-use Rattle.ffa_laws.proofs.Form.{accessed-kept, served-kept}
+use Rattle.ffa_laws.proofs.Form.{accessed-kept, served-kept, waited-kept}
 use Rattle.ffa_laws.proofs.Written.{rewritten-filled, rewritten-written}
 use Rattle.ffa_playable.specs.Bench.{Bench, Several, interrupted_by, noticing, operated_by, turned_by}
 use Rattle.ffa_playable.proofs.Noticing.{asked-stays}
@@ -186,6 +186,10 @@ module _ (s : State) where
       ]
   left-service (Version word) beside =
       version-leaves (IsLeft s) s.ffa s word still (λ version. record { parties = refl; base = refl; transactions = refl; pages = unwritten s.pages })
+  left-service (MsgWait flags) beside =
+      waited-kept (IsLeft s) s flags
+      (record { parties = refl; base = refl; transactions = refl; pages = unwritten s.pages })
+      (record { parties = refl; base = refl; transactions = refl; pages = unwritten s.pages })
   left-service MsgSend2 beside =
       record {
         parties = refl;

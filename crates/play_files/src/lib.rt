@@ -4,6 +4,7 @@
 #![tactic(auto)]
 
 mod commands;
+mod flags;
 mod input;
 mod output;
 mod report;

@@ -1,6 +1,7 @@
 // SPDX-License-Identifier: MIT OR Apache-2.0
 //! Traces that are tested: all of some folders, each played with its guards.
 use crate::commands::Commands;
+use crate::flags::with_own_flags;
 use crate::report::{Outcome, Report, Shown};
 use crate::running::{carry_out, open, read_whole, text_of, unless_no_memory, wording_of};
 use play_arguments::{
@@ -197,11 +198,8 @@ fn play_one<H: AllocGlobal + fs::Files + Eprint + Clone + Drop, S: Read + Copy +
     } else {
         format!(in alloc; "{folder}/machine.toml")?
     };
-    let machine = MachineOptions {
-        frames: false,
-        tlb: false,
-        processors: options.processors,
-        ffa: options.ffa,
+    let Some(machine) = machine_of(rt, path.as_str(), options, told)? else {
+        return Ok(Outcome::Failed(2));
     };
     let play = play_of(manifest.as_str(), path.as_str(), machine, options.words);
     let request = Request::Play(play);
@@ -211,6 +209,31 @@ fn play_one<H: AllocGlobal + fs::Files + Eprint + Clone + Drop, S: Read + Copy +
     match carry_out(rt, input, io::sink(), told, commands, &request)? {
         0 => outcome_of(guards_in(rt, input, commands, &request), options),
         status => Ok(Outcome::Failed(status)),
+    }
+}
+
+// Returns the options of the machine of a trace. The flags of the trace replace the same flags of the command line. If a
+// flag is wrong, the function writes the message to `told`, and returns `None`. If the program cannot read the trace, the
+// play of the trace reports this.
+fn machine_of<H: AllocGlobal + fs::Files>(
+    rt: &H,
+    path: &str,
+    options: &TestOptions<'_>,
+    told: &mut Kept,
+) -> io::Result<Option<MachineOptions>> {
+    let machine = MachineOptions {
+        frames: false,
+        tlb: false,
+        processors: options.processors,
+        ffa: options.ffa,
+    };
+    let found = match fs::open(rt, path) {
+        Ok(trace) => with_own_flags(rt.alloc(), trace, machine, told),
+        Err(error) => Err(error),
+    };
+    match found {
+        Err(error) if error.kind() != ErrorKind::OutOfMemory => Ok(Some(machine)),
+        found => found,
     }
 }
 

@@ -4,7 +4,7 @@ use Rattle.std.proofs.Common.{ℕ, ◌+◌, ◌-◌, ◌%◌, ◌^◌, Bool, tru
 use Rattle.std.proofs.lemmas.Bool.{cases_Bool}
 use Rattle.ffa_model.specs.declared.endpoint.EndpointId.{EndpointId}
 use Rattle.ffa_model.specs.declared.endpoint.Version.{Version}
-use Rattle.ffa_model.specs.declared.endpoint.Version.TheVariants.{Compact, V1_1}
+use Rattle.ffa_model.specs.declared.endpoint.Version.TheVariants.{Compact, V1_1, V1_2}
 use Rattle.ffa_model.specs.declared.refusal.Refusal.{Refusal}
 use Rattle.ffa_model.specs.declared.refusal.Refusal.TheVariants.{TxMisplaced, RxMisplaced}
 use Rattle.ffa_model.specs.declared.rights.Data.{Data}
@@ -138,6 +138,7 @@ single_room bytes = single_append (codes ", and the buffer has " ++ address_text
 single_version : (version : Version) → IsSingle (version_text version)
 single_version Compact = refl
 single_version V1_1 = refl
+single_version V1_2 = refl
 
 single_form : (caller : ℕ) (version : Version) → IsSingle (form_text caller version)
 unfolding form_text

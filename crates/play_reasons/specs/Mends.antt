@@ -2,7 +2,7 @@
 -- What stands in the line of a reason behind what the check is about: a value that is wanted, and what is to be mended.
 use Rattle.std.specs.Prelude.{ℕ, ◌+◌, ◌-◌, ◌%◌, ◌^◌, ◌==◌, nat_lt, List, [], ◌++◌, codes, Some, if◌then◌else◌}
 use Rattle.ffa_model.specs.declared.endpoint.Version.{Version}
-use Rattle.ffa_model.specs.declared.endpoint.Version.TheVariants.{Compact, V1_1}
+use Rattle.ffa_model.specs.declared.endpoint.Version.TheVariants.{Compact, V1_1, V1_2}
 use Rattle.ffa_model.specs.declared.refusal.Refusal.{Refusal}
 use Rattle.ffa_model.specs.declared.refusal.Refusal.TheVariants.{TxMisplaced, RxMisplaced}
 use Rattle.ffa_model.specs.declared.rights.Kind.{Kind}
@@ -113,6 +113,7 @@ room_text bytes = (codes ", and the buffer has " ++ address_text bytes) ++ codes
 abbrev pub version_text : Version → List ℕ
 version_text Compact = codes " uses the compact form"
 version_text V1_1 = codes " uses version 1.1"
+version_text V1_2 = codes " uses version 1.2"
 
 unfoldable pub form_text : ℕ → Version → List ℕ
 form_text caller version =

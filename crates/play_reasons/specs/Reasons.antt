@@ -1,6 +1,6 @@
 -- SPDX-License-Identifier: MIT OR Apache-2.0
 -- The line that says why an operation is refused.
-use Rattle.std.specs.Prelude.{ℕ, ◌+◌, ◌-◌, ◌*◌, ◌%◌, ◌^◌, min, nat_le, Bool, List, [], ◌++◌, codes, decimal, slice_index, Option, None, Some, if◌then◌else◌}
+use Rattle.std.specs.Prelude.{ℕ, ◌+◌, ◌-◌, ◌*◌, ◌%◌, ◌^◌, ◌==◌, min, nat_le, Bool, List, [], ◌++◌, codes, decimal, slice_index, Option, None, Some, if◌then◌else◌}
 use Rattle.std.specs.Option.{option_map, option_map_or}
 use Rattle.ffa_model.specs.declared.flaw.FieldPlace.{FieldPlace}
 use Rattle.ffa_model.specs.declared.flaw.Flaw.{Flaw}
@@ -139,7 +139,7 @@ value_text size value = option_map_or (number_in_field size) value []
 
 -- Of access descriptors that don't end inside the descriptor the count alone is told, which is the first half of eight bytes
 abbrev pub told_size : Flaw → ℕ → ℕ
-told_size (Header ArrayOutside) size = min size 4
+told_size (Header ArrayOutside) size = if size == 8 then 4 else size
 told_size flaw size = size
 
 abbrev pub told_value : Flaw → ℕ → ℕ

@@ -15,7 +15,7 @@ const HEADER: &[(HeaderFlaw, &str)] = &[
     ),
     (
         HeaderFlaw::AccessSize,
-        "the access descriptor size field is not 16, or not 0 in the compact form",
+        "the access descriptor size field is not 16, 32 in FF-A 1.2, or 0 in the compact form",
     ),
     (
         HeaderFlaw::ArrayUnaligned,

@@ -304,6 +304,7 @@ fn told_access_size(version: Version) -> u64
     match version {
         Version::Compact => 0,
         Version::V1_1 => 16,
+        Version::V1_2 => 32,
     }
 }
 
@@ -313,6 +314,7 @@ fn version_words(version: Version) -> &'static str
     match version {
         Version::Compact => " uses the compact form",
         Version::V1_1 => " uses version 1.1",
+        Version::V1_2 => " uses version 1.2",
     }
 }
 

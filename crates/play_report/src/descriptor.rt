@@ -11,6 +11,7 @@ use crate::failure::Failure;
 use crate::manifest::read_manifest;
 use crate::notes::Notes;
 use crate::output::write;
+use ffa_model::Ffa;
 use play_arguments::DescriptorWords;
 use play_descriptor::{Asked, read_words, words_for};
 use play_writer::{ScriptError, put_descriptor, put_reclaim};
@@ -18,8 +19,8 @@ use std::alloc::{Allocator, Global};
 use std::io::Write;
 
 /// Prints the lines of a trace that write the descriptor of these words and make its call, or of a reclaim the line of its
-/// call. Where a manifest is named by this path, of whose file these are the bytes, if it could be read, the descriptor has the
-/// form that the caller has there.
+/// call. Where the manifest of a machine of FF-A 1.1 is named by this path, of whose file these are the bytes, if it could be
+/// read, the descriptor has the form that the caller has there.
 pub fn describe_for<'a, A: Allocator + Copy, W: Write>(
     alloc: A,
     manifests: Global,
@@ -35,7 +36,7 @@ pub fn describe_for<'a, A: Allocator + Copy, W: Write>(
     let Some(path) = path else {
         return describe(alloc, &words, out);
     };
-    let manifest = read_manifest(manifests, path, manifest, notes)?;
+    let manifest = read_manifest(manifests, path, manifest, Ffa::V1_1, notes)?;
     describe(alloc, &words_for(words, &manifest), out)
 }
 

@@ -12,39 +12,41 @@ use crate::notes::{More, Notes};
 use crate::output::write;
 use crate::regions::put_regions;
 use ffa_manifest::ManifestError;
-use ffa_model::Manifest;
+use ffa_model::{Ffa, Manifest};
 use play_syntax::text::Text;
 use std::alloc::{AllocError, Allocator, Global};
 use std::io::Write;
 
-/// Says that a manifest is accepted.
+/// Says that a manifest is accepted, for a machine of this version of FF-A.
 pub fn accept<'a, A: Allocator, W: Write>(
     alloc: Global,
     path: &'a str,
     manifest: Option<&[u8]>,
+    ffa: Ffa,
     out: &mut W,
     notes: &mut Notes<A>,
 ) -> Result<(), Failure<'a>>
-    ensures done { OnOk result (IsChecked (bytes_of manifest.entry) (W.contents out.old) (W.contents out.new)) }
-    ensures failed { IfErr result (FailsUnplayed (bytes_of manifest.entry) (W.contents out.old) (W.contents out.new)) }
+    ensures done { OnOk result (IsChecked ffa (bytes_of manifest.entry) (W.contents out.old) (W.contents out.new)) }
+    ensures failed { IfErr result (FailsUnplayed ffa (bytes_of manifest.entry) (W.contents out.old) (W.contents out.new)) }
 {
-    read_manifest(alloc, path, manifest, notes)?;
+    read_manifest(alloc, path, manifest, ffa, notes)?;
     write(out, b"accepted\n")
 }
 
-/// Prints where the tables of a manifest's machine stand, and where that is asked for its regions and RAM.
+/// Prints where the tables of a manifest's machine of this version of FF-A stand, and where that is asked for its regions and RAM.
 pub fn lay_out<'a, A: Allocator, W: Write>(
     alloc: Global,
     path: &'a str,
     manifest: Option<&[u8]>,
+    ffa: Ffa,
     regions: bool,
     out: &mut W,
     notes: &mut Notes<A>,
 ) -> Result<(), Failure<'a>>
-    ensures done { OnOk result (IsLaidOut regions (bytes_of manifest.entry) (W.contents out.old) (W.contents out.new)) }
-    ensures failed { IfErr result (FailsUnplayed (bytes_of manifest.entry) (W.contents out.old) (W.contents out.new)) }
+    ensures done { OnOk result (IsLaidOut ffa regions (bytes_of manifest.entry) (W.contents out.old) (W.contents out.new)) }
+    ensures failed { IfErr result (FailsUnplayed ffa (bytes_of manifest.entry) (W.contents out.old) (W.contents out.new)) }
 {
-    let manifest = read_manifest(alloc, path, manifest, notes)?;
+    let manifest = read_manifest(alloc, path, manifest, ffa, notes)?;
     let mut text = Text::new();
     layout::push_layout(&mut text, &manifest);
     if !regions {
@@ -66,36 +68,37 @@ fn with_regions(alloc: Global, text: &[u8], manifest: &Manifest) -> Result<Vec<u
     Ok(whole)
 }
 
-/// Reads the manifest at this path, of whose file these are the bytes, if it could be read. Where it is refused and more is
-/// asked for, `notes` has what more there is to say.
+/// Reads the manifest at this path, of whose file these are the bytes, if it could be read, for a machine of this version of
+/// FF-A. Where it is refused and more is asked for, `notes` has what more there is to say.
 pub fn read_manifest<'a, A: Allocator>(
     alloc: Global,
     path: &'a str,
     bytes: Option<&[u8]>,
+    ffa: Ffa,
     notes: &mut Notes<A>,
 ) -> Result<Manifest, Failure<'a>>
-    ensures described { IfOk result (λ m. Describes (bytes_of bytes.entry) (parts_of m)) }
-    ensures failed { IfErr result (FailsUnplayed (bytes_of bytes.entry) None None) }
+    ensures described { IfOk result (λ m. Describes ffa (bytes_of bytes.entry) (parts_of m)) }
+    ensures failed { IfErr result (FailsUnplayed ffa (bytes_of bytes.entry) None None) }
     ensures noted { IfErr result (IsNoted notes.old.verbose notes.new.manifest) }
 {
     let Some(bytes) = bytes else {
         return Err(Failure::Read(path));
     };
     if notes.verbose {
-        return explain_bytes(alloc, bytes, notes);
+        return explain_bytes(alloc, bytes, ffa, notes);
     }
     match str::from_utf8(bytes) {
-        Ok(text) => read_text(alloc, text),
+        Ok(text) => read_text(alloc, text, ffa),
         Err(_) => Err(Failure::Manifest(ManifestError::Toml)),
     }
 }
 
 // Reads the text of a manifest.
-fn read_text(alloc: Global, text: &str) -> Result<Manifest, Failure<'static>>
-    ensures described { IfOk result (λ m. machine_of text.now ≡ Ok (parts_of m)) }
-    ensures failed { IfErr result (FailsToRead text.now) }
+fn read_text(alloc: Global, text: &str, ffa: Ffa) -> Result<Manifest, Failure<'static>>
+    ensures described { IfOk result (λ m. machine_of ffa text.now ≡ Ok (parts_of m)) }
+    ensures failed { IfErr result (FailsToRead ffa text.now) }
 {
-    match ffa_manifest::read(alloc, text) {
+    match ffa_manifest::read_for(alloc, text, ffa) {
         Ok(manifest) => Ok(manifest),
         Err(ManifestError::NoMemory) => Err(Failure::NoMemory),
         Err(cause) => Err(Failure::Manifest(cause)),
@@ -107,13 +110,14 @@ fn read_text(alloc: Global, text: &str) -> Result<Manifest, Failure<'static>>
 fn explain_bytes<A: Allocator>(
     alloc: Global,
     bytes: &[u8],
+    ffa: Ffa,
     notes: &mut Notes<A>,
 ) -> Result<Manifest, Failure<'static>>
-    ensures described { IfOk result (λ m. Describes (Some bytes.now) (parts_of m)) }
-    ensures failed { IfErr result (FailsUnplayed (Some bytes.now) None None) }
+    ensures described { IfOk result (λ m. Describes ffa (Some bytes.now) (parts_of m)) }
+    ensures failed { IfErr result (FailsUnplayed ffa (Some bytes.now) None None) }
     ensures noted { IfErr result (IsNoted true notes.new.manifest) }
 {
-    match ffa_manifest::explain(alloc, bytes) {
+    match ffa_manifest::explain(alloc, bytes, ffa) {
         Ok(Ok(manifest)) => Ok(manifest),
         Ok(Err(refusal)) => {
             let cause = refusal.cause;

@@ -4,7 +4,8 @@ ghost use Rattle.std.specs.Prelude.{◌≡◌, is_some, true};
 
 use crate::excerpt::Excerpt;
 use crate::failure::{Failure, LineFlaw};
-use ffa_manifest::{ManifestError, ManifestRefusal};
+use ffa_manifest::refusal::Fault;
+use ffa_manifest::{Found, ManifestError, ManifestRefusal};
 use std::alloc::Allocator;
 use std::fmt::{self, Display};
 use std::io::ErrorKind;
@@ -23,11 +24,25 @@ pub enum More {
 impl Display for More {
     fn fmt<W: fmt::Write>(&self, f: &mut fmt::Formatter<W>) -> fmt::Result {
         match self {
+            More::Place(refusal) if needs_newer_machine(refusal) => {
+                write!(f, "{refusal} (--ffa 1.2)")
+            }
             More::Place(refusal) => write!(f, "{refusal}"),
             More::Line(flaw) => write!(f, "{}", flaw.fault),
             More::File(reason) => write!(f, "{reason}"),
         }
     }
+}
+
+// Whether a manifest is refused for an endpoint of FF-A 1.2, which the machine may have with the flag `--ffa 1.2`.
+fn needs_newer_machine(refusal: &ManifestRefusal) -> bool {
+    matches!(
+        refusal.place.found,
+        Found::Value {
+            fault: Fault::NewerVersion,
+            ..
+        }
+    )
 }
 
 impl More {

@@ -20,8 +20,9 @@ impl<'m, S: Stage + Drop> Generator<'m, S> {
         self.buffers().is_some()
     }
 
-    /// The runner maps buffers of so many pages, where it finds them.
+    /// The runner, which has no buffers, maps some of so many pages, where it finds them.
     pub(crate) fn map(&mut self, pages: u32) {
+        self.ask_version();
         if let Some(tx) = self.free_run(pages, Data::Rw)
             && let Some(rx) = self.free_run_beside(tx)
         {

@@ -15,16 +15,15 @@ pub(crate) const PAGE_SIZE: usize = 4096;
 /// How many words.
 const WORDS: usize = 512;
 
-/// How many bytes an access descriptor has.
-const ACCESS_SIZE: usize = 16;
-
-// The sizes of fields that stand side by side. A header, in both forms: sender, attributes, flags, handle, tag, the word of the
+// The sizes of fields that stand side by side. A header, in each form: sender, attributes, flags, handle, tag, the word of the
 // size, count.
 const HEADER: [usize; 7] = [2, 2, 4, 8, 8, 4, 4];
-// The rest of a header of 1.1: the offset of the access descriptors, and reserved words.
+// The rest of a header that isn't compact: the offset of the access descriptors, and reserved words.
 const HEADER_REST: [usize; 3] = [4, 4, 8];
 // An access descriptor: endpoint, permissions, flags, composite offset, reserved.
 const ACCESS: [usize; 5] = [2, 1, 1, 4, 8];
+// The same in 1.2: the implementation's 16 bytes stand before the reserved ones.
+const ACCESS_1_2: [usize; 7] = [2, 1, 1, 4, 8, 8, 8];
 // A composite and its first range: total, count, reserved, address, pages, reserved.
 const COMPOSITE: [usize; 6] = [4, 4, 8, 8, 4, 4];
 // Handle, flags, count, endpoint.
@@ -109,6 +108,30 @@ pub(crate) fn deed_of(kind: Kind) -> Deed {
         Kind::Share => Deed::Share,
         Kind::Lend => Deed::Lend,
         Kind::Donate => Deed::Donate,
+    }
+}
+
+// How many bytes a header has.
+fn header_size(version: Version) -> usize {
+    match version {
+        Version::Compact => 32,
+        Version::V1_1 | Version::V1_2 => 48,
+    }
+}
+
+// How many bytes an access descriptor has.
+fn access_size(version: Version) -> usize {
+    match version {
+        Version::Compact | Version::V1_1 => 16,
+        Version::V1_2 => 32,
+    }
+}
+
+// The sizes of its fields.
+fn access_fields(version: Version) -> &'static [usize] {
+    match version {
+        Version::Compact | Version::V1_1 => &ACCESS,
+        Version::V1_2 => &ACCESS_1_2,
     }
 }
 
@@ -204,22 +227,21 @@ impl Dice {
 
     // Where fields of a descriptor begin, and their sizes.
     fn fields(&mut self, version: Version, written: &Descriptor) -> (usize, &'static [usize]) {
-        let array = match version {
-            Version::Compact => 32,
-            Version::V1_1 => 48,
-        };
+        let array = header_size(version);
+        let access = access_fields(version);
         match written {
             Descriptor::Send(offer) => match self.below(3) {
                 0 => self.header_fields(version),
-                1 => (array, &ACCESS),
+                1 => (array, access),
                 _ => {
                     let takers = offer.takers.iter().flatten();
-                    let end = takers.fold(array, |end, _| usize::saturating_add(end, ACCESS_SIZE));
+                    let size = access_size(version);
+                    let end = takers.fold(array, |end, _| usize::saturating_add(end, size));
                     (end, &COMPOSITE)
                 }
             },
             Descriptor::Retrieve(_) => match self.one_in(3) {
-                true => (array, &ACCESS),
+                true => (array, access),
                 false => self.header_fields(version),
             },
             Descriptor::Relinquish(_) => (0, &RELINQUISH),
@@ -228,7 +250,7 @@ impl Dice {
     }
 
     fn header_fields(&mut self, version: Version) -> (usize, &'static [usize]) {
-        if version == Version::V1_1 && self.one_in(3) {
+        if version != Version::Compact && self.one_in(3) {
             (32, &HEADER_REST)
         } else {
             (0, &HEADER)

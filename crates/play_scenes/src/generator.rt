@@ -5,6 +5,7 @@ ghost use Rattle.ffa_model.specs.declared.limits.TheConstants.{MOST_ENDPOINTS};
 
 use crate::dice::{Dice, Round};
 use crate::offers::Offers;
+use crate::setup::form_of;
 use crate::stage::Stage;
 use bitflags::Flags;
 use ffa_abi::decode;
@@ -14,6 +15,9 @@ use ffa_model::{
     Work,
 };
 use play_transcript::{Attempt, Change, Deed, TraceEntry};
+
+/// What FFA_VERSION answers where a machine of FF-A 1.2 keeps the form that is asked for.
+const SERVED_1_2: u64 = 0x1_0002;
 
 /// An endpoint's buffers, and how many bytes stand in RX, which is full where there are some.
 #[derive(Clone, Copy)]
@@ -27,6 +31,8 @@ pub(crate) struct MappedBuffers {
 #[derive(Clone, Copy, Default)]
 pub(crate) struct Known {
     pub buffers: Option<MappedBuffers>,
+    /// The form that it asked for, where a machine of FF-A 1.2 keeps it.
+    pub version: Option<Version>,
     /// Its work, where it doesn't wait.
     pub work: Option<Work>,
     /// The bits of its own that it bound to another endpoint: the last ones, as a word, and to whom.
@@ -205,10 +211,12 @@ impl<'m, S: Stage + Drop> Generator<'m, S> {
         self.manifest.endpoints.as_slice().get(endpoint.place())
     }
 
-    /// The form in which an endpoint writes and reads, as the manifest says.
+    /// The form in which an endpoint writes and reads: that which it asked for, and else that which the manifest says.
     pub(crate) fn version_of(&self, endpoint: EndpointId) -> Version {
-        self.endpoint(endpoint)
-            .map_or(Version::V1_1, |endpoint| endpoint.version)
+        let given = self
+            .endpoint(endpoint)
+            .map_or(Version::V1_1, |endpoint| endpoint.version);
+        self.known_of(endpoint).version.unwrap_or(given)
     }
 
     /// Whether an endpoint has these properties.
@@ -248,6 +256,9 @@ impl<'m, S: Stage + Drop> Generator<'m, S> {
     pub(crate) fn learn(&mut self, caller: EndpointId, call: Call, answer: &[u64; 8]) {
         let runner = self.runner();
         match call {
+            Call::Version { version } if answer[0] == SERVED_1_2 => {
+                self.known_mut(caller).version = Some(form_of(version));
+            }
             Call::RxtxMap { tx, rx, pages } => {
                 self.known_mut(caller).buffers = Some(MappedBuffers {
                     tx: Range { address: tx, pages },
@@ -272,9 +283,11 @@ impl<'m, S: Stage + Drop> Generator<'m, S> {
             }
             Call::DirectRequest(_) => self.known_mut(runner).work = Some(Work::Request(caller)),
             Call::DirectResponse(_) => self.known_mut(caller).work = None,
-            Call::MsgWait => {
+            Call::MsgWait { flags } => {
                 self.known_mut(caller).work = None;
-                self.known_mut(caller).fill_rx(0);
+                if self.version_of(caller) != Version::V1_2 || flags % 2 == 0 {
+                    self.known_mut(caller).fill_rx(0);
+                }
             }
             _ => {}
         }

@@ -35,6 +35,15 @@ const NO_CALLS: [u32; 10] = [
     FFA_ERROR - 1,
 ];
 
+/// The form of who asked a machine of FF-A 1.2 for the version that a word names.
+pub(crate) fn form_of(word: u32) -> Version {
+    match word % 0x1_0000 {
+        0 => Version::Compact,
+        1 => Version::V1_1,
+        _ => Version::V1_2,
+    }
+}
+
 impl<'m, S: Stage + Drop> Generator<'m, S> {
     /// A setup call.
     pub(crate) fn play_setup(&mut self) {
@@ -48,18 +57,33 @@ impl<'m, S: Stage + Drop> Generator<'m, S> {
         self.call(function, &[argument]);
     }
 
-    // A word of FFA_VERSION. On a machine of FF-A 1.2 it never changes the runner's form, so that descriptors keep the form
-    // that the manifest says.
+    // A word of FFA_VERSION. A machine of FF-A 1.2 refuses one of another form than the runner's where that has buffers, and else
+    // keeps the form.
     fn version_word(&mut self) -> u64 {
-        let word = self
-            .dice
-            .pick(&[0x1_0000, 0x1_0001, 0x2_0000, 0x8001_0001, 0]);
-        if self.manifest.ffa == Ffa::V1_1 || word >> 16 != 1 {
-            return word;
+        match self.manifest.ffa {
+            Ffa::V1_1 => self
+                .dice
+                .pick(&[0x1_0000, 0x1_0001, 0x2_0000, 0x8001_0001, 0]),
+            Ffa::V1_2 => self.dice.pick(&[
+                0x1_0000,
+                0x1_0001,
+                0x1_0002,
+                0x1_0003,
+                0x2_0000,
+                0x8001_0002,
+                0,
+            ]),
         }
-        match self.version_of(self.runner()) {
-            Version::Compact => 0x1_0000,
-            Version::V1_1 => 0x1_0001,
+    }
+
+    /// On a machine of FF-A 1.2 a runner without buffers asks for a version, if it never did and now and then.
+    pub(crate) fn ask_version(&mut self) {
+        if self.manifest.ffa == Ffa::V1_2
+            && (self.known_of(self.runner()).version.is_none() || self.dice.one_in(4))
+        {
+            let word = self.dice.pick(&[0x1_0000, 0x1_0001, 0x1_0002, 0x1_0002]);
+            self.announce(Deed::Setup, None, Change::Nothing);
+            self.call(FFA_VERSION, &[word]);
         }
     }
 

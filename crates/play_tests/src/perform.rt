@@ -58,12 +58,14 @@ const DEMO: Request<'static> = Request::Play(BUILT_IN);
 
 const CHECK: Request<'static> = Request::Check {
     manifest: "row.toml",
+    ffa: Ffa::V1_1,
     verbose: false,
 };
 
 const LAYOUT: Request<'static> = Request::Layout {
     manifest: "row.toml",
     regions: false,
+    ffa: Ffa::V1_1,
     verbose: false,
 };
 

@@ -1,13 +1,14 @@
 -- SPDX-License-Identifier: MIT OR Apache-2.0
 -- A header that was written, as it is read.
-use Rattle.std.proofs.Common.{◌≡◌, ℕ, ◌*◌, ◌%◌, ◌^◌, ◌<◌, ◌≤◌, true, List, [], ◌++◌, length, refl, ap, arith, length-append, ◌∙◌}
+use Rattle.std.proofs.Common.{◌≡◌, ℕ, ◌%◌, ◌^◌, ◌<◌, ◌≤◌, true, List, [], ◌++◌, length, refl, ap, arith, length-append, ◌∙◌}
 use Rattle.byteorder.specs.Numbers.{little_number-reads_back}
 use Rattle.ffa_model.specs.declared.endpoint.Version.{Version}
-use Rattle.ffa_model.specs.declared.endpoint.Version.TheVariants.{Compact, V1_1}
-use Rattle.ffa_model.specs.DescriptorPlaces.{Versioned, in_version, u16_at, u32_at, u64_at, header_size, told_access_size, sender_field, attributes_field, flags_field, handle_field, tag_field, receiver_count, array_place, is_rest_zero, IsHeader}
+use Rattle.ffa_model.specs.declared.endpoint.Version.TheVariants.{Compact, V1_1, V1_2}
+use Rattle.ffa_model.specs.DescriptorPlaces.{Versioned, in_version, u16_at, u32_at, u64_at, header_size, accesses_size, told_access_size, sender_field, attributes_field, flags_field, handle_field, tag_field, receiver_count, array_place, is_rest_zero, IsHeader}
 use Rattle.ffa_model.specs.ResponseBytes.{le}
 use Rattle.play_writer.specs.declared.heading.Heading.{Heading}
 use Rattle.play_writer.specs.Composed.{heading_bytes}
+use Rattle.play_writer.proofs.Sizes.{header_aligned}
 
 -- each number fits its field
 pub record Fitting (h : Heading) : Type 0 where
@@ -34,46 +35,50 @@ pub length-heading : (version : Version) (h : Heading) → length (heading_bytes
 unfolding le
 length-heading Compact h = refl
 length-heading V1_1 h = refl
+length-heading V1_2 h = refl
+
+told_few : (version : Version) → told_access_size version < 2 ^ 32
+told_few Compact = omega arith
+told_few V1_1 = omega arith
+told_few V1_2 = omega arith
+
+-- what stands behind the first 32 bytes
+module _ (h : Heading) (tail : List ℕ) where
+  array_told : (version : Version) → array_place (in_version version (heading_bytes version h ++ tail)) ≡ header_size version
+  unfolding le u32_at
+  array_told Compact = refl
+  array_told V1_1 = refl
+  array_told V1_2 = refl
+
+  rest_zero : (version : Version) → is_rest_zero version (heading_bytes version h ++ tail) ≡ true
+  unfolding le u32_at u64_at
+  rest_zero Compact = refl
+  rest_zero V1_1 = refl
+  rest_zero V1_2 = refl
 
 pub headed : (version : Version) (h : Heading) (tail : List ℕ) → Fitting h → Headed (in_version version (heading_bytes version h ++ tail)) h
 unfolding le u16_at u32_at u64_at
-headed Compact h tail f =
+headed version h tail f =
     record {
       sender = little_number-reads_back 2 h.sender.0 [] f.sender;
       attributes = little_number-reads_back 2 h.attributes [] f.attributes;
       flags = little_number-reads_back 4 h.flags [] f.flags;
       handle = little_number-reads_back 8 h.handle [] f.handle;
       tag = little_number-reads_back 8 h.tag [] f.tag;
-      told = refl;
+      told = little_number-reads_back 4 (told_access_size version) [] (told_few version);
       count = little_number-reads_back 4 h.count [] f.count;
-      array = refl;
-      reserved = refl;
+      array = array_told h tail version;
+      reserved = rest_zero h tail version;
     }
-headed V1_1 h tail f =
-    record {
-      sender = little_number-reads_back 2 h.sender.0 [] f.sender;
-      attributes = little_number-reads_back 2 h.attributes [] f.attributes;
-      flags = little_number-reads_back 4 h.flags [] f.flags;
-      handle = little_number-reads_back 8 h.handle [] f.handle;
-      tag = little_number-reads_back 8 h.tag [] f.tag;
-      told = refl;
-      count = little_number-reads_back 4 h.count [] f.count;
-      array = refl;
-      reserved = refl;
-    }
-
-header_aligned : (version : Version) → header_size version % 16 ≡ 0
-header_aligned Compact = refl
-header_aligned V1_1 = refl
 
 -- its access descriptors stand in the tail
-pub is_header_of : (version : Version) (h : Heading) (tail : List ℕ) → Fitting h → 16 * h.count ≤ length tail → IsHeader (in_version version (heading_bytes version h ++ tail))
+pub is_header_of : (version : Version) (h : Heading) (tail : List ℕ) → Fitting h → accesses_size version h.count ≤ length tail → IsHeader (in_version version (heading_bytes version h ++ tail))
 is_header_of version h tail fits room =
     let says = headed version h tail fits in
     let long = length-append (heading_bytes version h) tail in
     let front = length-heading version h in
     let array = says.array in
-    let count = says.count in
+    let count = ap (accesses_size version) says.count in
     record {
       whole = omega arith;
       told = says.told;

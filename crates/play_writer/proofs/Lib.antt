@@ -13,3 +13,4 @@ pub mod Operations
 pub mod Bytes
 pub mod Storing
 pub mod Sizes
+pub mod Runs

@@ -17,6 +17,7 @@ use Rattle.ffa_memdesc.proofs.Decisions.{either_true}
 use Rattle.ffa_memdesc.proofs.Listed.{all_again, none_again}
 use Rattle.ffa_memdesc.proofs.SendLaw.{send_is}
 use Rattle.play_writer.specs.Conditions.{are_distinct, are_all_apart, conditions, first_broken}
+use Rattle.ffa_model.specs.declared.manifest.Ffa.{Ffa}
 
 holds : {A : Type 0} (t : Bool) (u : A) (x : Option A) → t ≡ true → x ≡ None → cond t x (Some u) ≡ None
 holds true u x e none = none
@@ -65,11 +66,11 @@ all_apart_again (suc n) f h =
     and_from _ _ (all_again (are_apart (f 0)) (λ i. f (suc i)) n (λ i lt. apart_again (f 0) (f (suc i)) (h (suc i) 0 (omega arith) (omega arith))))
     (all_apart_again n (λ i. f (suc i)) (λ i j before lt. h (suc i) (suc j) (omega arith) (omega arith)))
 
-pub needs : (kind : Kind) (b : Versioned) (r : SendRecord) → are_bytes b.bytes → Send kind b r → first_broken (conditions kind r) ≡ None
-needs kind b r bytes s =
+pub needs : (ffa : Ffa) (kind : Kind) (b : Versioned) (r : SendRecord) → are_bytes b.bytes → Send ffa kind b r → first_broken (conditions kind r) ≡ None
+needs ffa kind b r bytes s =
     let many = length-listed (receiver_count b) (receiver_in b) in
     let much = length-listed (range_count b) (range_in b) in
-    subst (λ (x : SendRecord). first_broken (conditions kind x) ≡ None) (send_is b r s.sender s.zero s.tag s.receivers s.ranges)
+    subst (λ (x : SendRecord). first_broken (conditions kind x) ≡ None) (send_is ffa kind b r s.sender s.zero s.tag s.receivers s.ranges)
     (holds _ _ _ (flag_again kind _ s.flags)
     (holds _ _ _ (le-leb _ _ (subst (λ n. 1 ≤ n) (sym many) s.least))
     (holds _ _ _ (le-leb _ _ (subst (λ n. n ≤ most_receivers kind) (sym many) s.most))

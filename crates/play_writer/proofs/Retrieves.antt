@@ -1,14 +1,15 @@
 -- SPDX-License-Identifier: MIT OR Apache-2.0
 -- The bytes of a retrieve are read as it.
-use Rattle.std.proofs.Common.{◌≡◌, ◌≢◌, ◌∙◌, ℕ, ◌+◌, ◌*◌, ◌^◌, ◌<◌, Bool, true, false, eqb, List, [], ◌++◌, length, Option, Some, None, refl, sym, ap, subst, inl, arith, length-append, append-nil}
+use Rattle.std.proofs.Common.{◌≡◌, ◌≢◌, ◌∙◌, ℕ, ◌+◌, ◌*◌, ◌≤◌, ◌^◌, ◌<◌, Bool, true, false, eqb, List, [], ◌++◌, length, Option, Some, None, refl, sym, subst, inl, arith, length-append, append-nil}
 use Rattle.ffa_model.specs.declared.endpoint.Version.{Version}
+use Rattle.ffa_model.specs.declared.endpoint.Version.TheVariants.{Compact, V1_1, V1_2}
 use Rattle.ffa_model.specs.declared.rights.Data.{Data}
 use Rattle.ffa_model.specs.declared.rights.Data.TheVariants.{Ro, Rw}
 use Rattle.ffa_model.specs.declared.rights.Kind.{Kind}
 use Rattle.ffa_model.specs.declared.rights.Kind.TheVariants.{Share}
 use Rattle.ffa_model.specs.declared.descriptor.RetrieveDesc.{RetrieveDesc}
 use Rattle.ffa_model.specs.Bits.{bits}
-use Rattle.ffa_model.specs.DescriptorPlaces.{in_version, array_place, data_code, exec_code, kind_code}
+use Rattle.ffa_model.specs.DescriptorPlaces.{in_version, accesses_size, array_place, data_code, exec_code, kind_code}
 use Rattle.ffa_model.specs.ResponseBytes.{le}
 use Rattle.ffa_model.specs.RetrieveDescriptor.{Retrieve}
 use Rattle.play_writer.specs.Composed.{heading_bytes, entry_bytes, retrieve_heading, asked_of}
@@ -35,23 +36,25 @@ kind_few None = omega arith
 kind_few (Some Share) = omega arith
 kind_few _ = omega arith
 
-length-entry : (e p c : ℕ) → length (entry_bytes e p c) ≡ 16
+length-entry : (version : Version) (e p c : ℕ) → length (entry_bytes version e p c) ≡ accesses_size version 1
 unfolding le
-length-entry e p c = refl
+length-entry Compact e p c = refl
+length-entry V1_1 e p c = refl
+length-entry V1_2 e p c = refl
 
 with_rest : (version : Version) (e : ℕ) (d : RetrieveDesc) (rest : List ℕ) → Fitting (retrieve_heading d) → e < 2 ^ 16
-    → Retrieve e (in_version version (heading_bytes version (retrieve_heading d) ++ (entry_bytes e (asked_of d) 0 ++ rest))) d
+    → Retrieve e (in_version version (heading_bytes version (retrieve_heading d) ++ (entry_bytes version e (asked_of d) 0 ++ rest))) d
 with_rest version e d rest fits small =
     let front = heading_bytes version (retrieve_heading d) in
-    let tail = entry_bytes e (asked_of d) 0 ++ rest in
+    let tail = entry_bytes version e (asked_of d) 0 ++ rest in
     let b = in_version version (front ++ tail) in
     let says = headed version (retrieve_heading d) tail fits in
-    let long : length tail ≡ 16 + length rest = length-append (entry_bytes e (asked_of d) 0) rest ∙ ap (λ (n : ℕ). n + length rest) (length-entry e (asked_of d) 0) in
+    let room : accesses_size version 1 ≤ length tail = omega (arith, length-append (entry_bytes version e (asked_of d) 0) rest, length-entry version e (asked_of d) 0) in
     let place : length front ≡ array_place b = length-heading version (retrieve_heading d) ∙ sym says.array in
-    let entry = entry_at front rest (array_place b) e (asked_of d) 0 place small (omega arith) in
+    let entry = entry_at version front rest (array_place b) e (asked_of d) 0 place small (omega arith) in
     let asks = subst (λ (p : ℕ). Asked p d.level d.exec) (sym entry.permissions) (asked d.level d.exec) in
     record {
-      header = is_header_of version (retrieve_heading d) tail fits (omega arith);
+      header = is_header_of version (retrieve_heading d) tail fits room;
       attributes = inl says.attributes;
       one = says.count;
       caller = entry.endpoint;
@@ -69,6 +72,6 @@ with_rest version e d rest fits small =
     }
 
 pub retrieves : (version : Version) (e : ℕ) (d : RetrieveDesc) → Fitting (retrieve_heading d) → e < 2 ^ 16
-    → Retrieve e (in_version version (heading_bytes version (retrieve_heading d) ++ entry_bytes e (asked_of d) 0)) d
+    → Retrieve e (in_version version (heading_bytes version (retrieve_heading d) ++ entry_bytes version e (asked_of d) 0)) d
 retrieves version e d fits small =
     subst (λ (l : List ℕ). Retrieve e (in_version version (heading_bytes version (retrieve_heading d) ++ l)) d) (append-nil _) (with_rest version e d [] fits small)

@@ -1,6 +1,6 @@
 -- SPDX-License-Identifier: MIT OR Apache-2.0
--- One of many parts of 16 bytes, between the bytes before it and those behind it.
-use Rattle.std.proofs.Common.{◌≡◌, ℕ, zero, suc, ◌+◌, ◌*◌, ◌<◌, List, [], ◌∷◌, ◌++◌, length, get_or, refl, sym, ap, ◌∙◌, arith, append_assoc, length-append, flat_map}
+-- One of many parts of the same size, between the bytes before it and those behind it.
+use Rattle.std.proofs.Common.{◌≡◌, ℕ, zero, suc, ◌+◌, ◌<◌, List, [], ◌∷◌, ◌++◌, length, get_or, refl, sym, ap, ◌∙◌, arith, append_assoc, length-append, flat_map}
 use Rattle.ffa_model.specs.Lists.{listed}
 
 pub record Split (all part : List ℕ) (at : ℕ) : Type 0 where
@@ -9,21 +9,25 @@ pub record Split (all part : List ℕ) (at : ℕ) : Type 0 where
   pub place : length front ≡ at
   pub is : all ≡ front ++ (part ++ rest)
 
-pub length-flat : {X : Type 0} (f : X → List ℕ) (xs : List X) → ((x : X) → length (f x) ≡ 16) → length (flat_map f xs) ≡ 16 * length xs
-length-flat f [] each = refl
-length-flat f (x ∷ xs) each = let here = each x in let more = length-flat f xs each in length-append (f x) (flat_map f xs) ∙ omega arith
+-- how many bytes so many parts of the same size have
+pub record IsSize (size : ℕ → ℕ) : Type 0 where
+  pub none : size 0 ≡ 0
+  pub more : (n : ℕ) → size (suc n) ≡ size 1 + size n
 
-pub split_at : {X : Type 0} (f : X → List ℕ) (xs : List X) (i : ℕ) (d : X) → ((x : X) → length (f x) ≡ 16) → i < length xs → Split (flat_map f xs) (f (get_or xs i d)) (16 * i)
-split_at f [] i d each lt = absurd (omega arith)
-split_at f (x ∷ xs) zero d each lt = record { front = []; rest = flat_map f xs; place = refl; is = refl }
-split_at f (x ∷ xs) (suc i) d each lt =
-    let s = split_at f xs i d each (omega arith) in
-    let here = each x in
-    let place = s.place in
+pub length-flat : {X : Type 0} (size : ℕ → ℕ) (f : X → List ℕ) (xs : List X) → IsSize size → ((x : X) → length (f x) ≡ size 1) → length (flat_map f xs) ≡ size (length xs)
+length-flat size f [] is each = sym is.none
+length-flat size f (x ∷ xs) is each = length-append (f x) (flat_map f xs) ∙ omega (arith, each x, length-flat size f xs is each, is.more (length xs))
+
+pub split_at : {X : Type 0} (size : ℕ → ℕ) (f : X → List ℕ) (xs : List X) (i : ℕ) (d : X) → IsSize size → ((x : X) → length (f x) ≡ size 1) → i < length xs
+    → Split (flat_map f xs) (f (get_or xs i d)) (size i)
+split_at size f [] i d is each lt = absurd (omega arith)
+split_at size f (x ∷ xs) zero d is each lt = record { front = []; rest = flat_map f xs; place = sym is.none; is = refl }
+split_at size f (x ∷ xs) (suc i) d is each lt =
+    let s = split_at size f xs i d is each (omega arith) in
     record {
       front = f x ++ s.front;
       rest = s.rest;
-      place = length-append (f x) s.front ∙ omega arith;
+      place = length-append (f x) s.front ∙ omega (arith, each x, s.place, is.more i);
       is = ap (λ (l : List ℕ). f x ++ l) s.is ∙ sym (append_assoc (f x) s.front (f (get_or xs i d) ++ s.rest));
     }
 

@@ -5,8 +5,8 @@ use Rattle.std.specs.Prelude.{ℕ, ◌+◌, ◌*◌, if◌then◌else◌, List, 
 use Rattle.ffa_model.specs.declared.endpoint.Version.{Version}
 use Rattle.ffa_model.specs.declared.descriptor.RelinquishDesc.{RelinquishDesc}
 use Rattle.ffa_model.specs.declared.descriptor.RetrieveDesc.{RetrieveDesc}
-use Rattle.ffa_model.specs.DescriptorPlaces.{header_size, told_access_size, data_code, exec_code, kind_code}
-use Rattle.ffa_model.specs.ResponseBytes.{le, rest_bytes, composite_bytes, range_bytes}
+use Rattle.ffa_model.specs.DescriptorPlaces.{header_size, accesses_size, told_access_size, data_code, exec_code, kind_code}
+use Rattle.ffa_model.specs.ResponseBytes.{le, rest_bytes, access_rest_bytes, composite_bytes, range_bytes}
 use Rattle.ffa_model.specs.SendDescriptor.{SendRecord, attributes_of}
 use Rattle.ffa_model.specs.declared.rights.Kind.{Kind}
 use Rattle.ffa_model.specs.declared.transaction.Receiver.{Receiver}
@@ -28,8 +28,9 @@ heading_bytes version h =
     ++ rest_bytes version
 
 -- an access descriptor, which tells the composite's place
-abbrev pub entry_bytes : ℕ → ℕ → ℕ → List ℕ
-entry_bytes endpoint permissions composite = le 2 endpoint ++ permissions ∷ 0 ∷ [] ++ le 4 composite ++ le 8 0
+abbrev pub entry_bytes : Version → ℕ → ℕ → ℕ → List ℕ
+entry_bytes version endpoint permissions composite =
+    le 2 endpoint ++ permissions ∷ 0 ∷ [] ++ le 4 composite ++ access_rest_bytes version
 
 -- what the header of a retrieve says, and what its one access descriptor asks for
 abbrev pub retrieve_heading : RetrieveDesc → Heading
@@ -51,15 +52,15 @@ send_heading kind r =
     }
 
 abbrev pub composite_of : Version → SendRecord → ℕ
-composite_of version r = header_size version + 16 * length r.receivers
+composite_of version r = header_size version + accesses_size version (length r.receivers)
 
-abbrev pub receiver_bytes : ℕ → Receiver → List ℕ
-receiver_bytes composite x = entry_bytes x.endpoint.0 (data_code x.grant) composite
+abbrev pub receiver_bytes : Version → ℕ → Receiver → List ℕ
+receiver_bytes version composite x = entry_bytes version x.endpoint.0 (data_code x.grant) composite
 
 abbrev pub send_bytes : Version → Kind → SendRecord → List ℕ
 send_bytes version kind r =
     heading_bytes version (send_heading kind r)
-    ++ flat_map (receiver_bytes (composite_of version r)) r.receivers
+    ++ flat_map (receiver_bytes version (composite_of version r)) r.receivers
     ++ composite_bytes r.ranges
     ++ flat_map range_bytes r.ranges
 

@@ -2,12 +2,12 @@
 //! Retrieve descriptors.
 
 ghost use Rattle.std.specs.Prelude.{◌≡◌, ◌+◌, ◌*◌, take, drop};
-ghost use Rattle.ffa_model.specs.DescriptorPlaces.{in_version, header_size, data_code, exec_code, kind_code};
+ghost use Rattle.ffa_model.specs.DescriptorPlaces.{accesses_size, in_version, header_size, data_code, exec_code, kind_code};
 ghost use Rattle.ffa_model.specs.RetrieveDescriptor.{Retrieve};
 
 use crate::access::write_access;
 use crate::heading::{Heading, write_heading};
-use ffa_memdesc::parts::header_size;
+use ffa_memdesc::parts::{accesses_size, header_size};
 use ffa_model::{Data, EndpointId, Kind, RetrieveDesc, Version};
 
 /// The flags: the kind in bits 4:3.
@@ -42,7 +42,7 @@ pub fn write_retrieve(
     receiver: EndpointId,
     page: &mut [u8; 4096],
 ) -> u32
-    ensures size { result ≡ header_size version + 16 }
+    ensures size { result ≡ header_size version + accesses_size version 1 }
     ensures read { Retrieve receiver.0 (in_version version (take result page.new)) desc.now }
     ensures rest { drop result page.new ≡ drop result page.old }
 {
@@ -66,10 +66,11 @@ pub fn write_retrieve(
     write_heading(page, version, &heading);
     write_access(
         page,
+        version,
         place as usize,
         receiver,
         permissions_of(level, exec),
         0,
     );
-    place + 16
+    place + accesses_size(version, 1) as u32
 }

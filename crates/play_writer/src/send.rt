@@ -3,8 +3,9 @@
 
 ghost use Rattle.std.specs.Prelude.{◌≡◌, ◌+◌, ◌*◌, ◌^◌, ◌<◌, ◌≤◌, ℕ, List, length, ◌++◌, get_or, take, drop, None, IfOk, OnErr, if◌then◌else◌, flat_map};
 ghost use Rattle.std.specs.Result.{result_err};
+ghost use Rattle.ffa_model.specs.declared.manifest.Ffa.{Ffa};
 ghost use Rattle.ffa_model.specs.declared.transaction.Receiver.{Receiver};
-ghost use Rattle.ffa_model.specs.DescriptorPlaces.{Versioned, in_version, data_code};
+ghost use Rattle.ffa_model.specs.DescriptorPlaces.{Versioned, accesses_size, in_version, data_code};
 ghost use Rattle.ffa_model.specs.SendDescriptor.{Send, send_record, attributes_of};
 ghost use Rattle.ffa_model.specs.SoundState.{are_bytes};
 ghost use Rattle.ffa_memdesc.specs.Writing.{Wrote};
@@ -14,7 +15,9 @@ ghost use Rattle.play_writer.specs.Conditions.{conditions, first_broken};
 use crate::access::write_access;
 use crate::heading::{Heading, write_heading};
 use crate::unfit::{Unfit, find_unfit};
-use ffa_memdesc::parts::{attributes_of, header_size, write_composite, write_ranges};
+use ffa_memdesc::parts::{
+    accesses_size, attributes_of, header_size, write_composite, write_ranges,
+};
 use ffa_model::{Data, EndpointId, Kind, Receiver, SendDesc, Version};
 
 /// What the header of a send says.
@@ -52,22 +55,31 @@ fn grant_code(grant: Option<Data>) -> u8
     }
 }
 
-fn write_receivers(page: &mut [u8], at: usize, receivers: &[Receiver], composite: u32)
-    requires { at + 16 * length receivers.now ≤ length page.old }
+fn write_receivers(
+    page: &mut [u8],
+    version: Version,
+    at: usize,
+    receivers: &[Receiver],
+    composite: u32,
+)
+    requires { at + accesses_size version (length receivers.now) ≤ length page.old }
     ensures bytes { (old front : List ℕ) → Wrote old front at page.old
-        → Wrote old (front ++ flat_map (receiver_bytes composite) receivers.now)
-        (at + 16 * length receivers.now) page.new }
+        → Wrote old (front ++ flat_map (receiver_bytes version composite) receivers.now)
+        (at + accesses_size version (length receivers.now)) page.new }
     ensures fit { (k : ℕ) → k < length receivers.now → (d : Receiver) → (get_or receivers.now k d).endpoint.0 < 2 ^ 16 }
 {
+    let mut place = at;
     for i in 0..receivers.len() {
         let receiver = &receivers[i];
         write_access(
             page,
-            at + 16 * i,
+            version,
+            place,
             receiver.endpoint,
             grant_code(receiver.grant),
             composite,
         );
+        place += accesses_size(version, 1) as usize;
     }
 }
 
@@ -75,17 +87,17 @@ fn write_receivers(page: &mut [u8], at: usize, receivers: &[Receiver], composite
 fn write_fit(version: Version, kind: Kind, desc: &SendDesc, page: &mut [u8; 4096]) -> u32
     requires { first_broken (conditions kind (send_record desc.now)) ≡ None }
     ensures size { result ≡ send_size version (send_record desc.now) }
-    ensures read { Send kind (in_version version (take result page.new)) (send_record desc.now) }
+    ensures read { (ffa : Ffa) → Send ffa kind (in_version version (take result page.new)) (send_record desc.now) }
     ensures rest { drop result page.new ≡ drop result page.old }
 {
     let receivers = desc.receivers.as_slice();
     let ranges = desc.ranges.as_slice();
     let count = receivers.len() as u32;
     let array = header_size(version);
-    let composite = array + 16 * count;
+    let composite = array + accesses_size(version, count) as u32;
     let heading = heading_of(kind, desc.sender, desc.zero, desc.tag, count);
     write_heading(page, version, &heading);
-    write_receivers(page, array as usize, receivers, composite);
+    write_receivers(page, version, array as usize, receivers, composite);
     write_composite(page, composite as usize, ranges);
     write_ranges(page, composite as usize + 16, ranges);
     composite + 16 + 16 * ranges.len() as u32
@@ -102,9 +114,10 @@ pub fn write_send(
 ) -> Result<u32, Unfit>
     ensures cause { result_err result ≡ first_broken (conditions kind (send_record desc.now)) }
     ensures size { IfOk result (λ n. n ≡ send_size version (send_record desc.now)) }
-    ensures read { IfOk result (λ n. Send kind (in_version version (take n page.new)) (send_record desc.now)) }
+    ensures read { let said = send_record desc.now in
+        IfOk result (λ n. (ffa : Ffa) → Send ffa kind (in_version version (take n page.new)) said) }
     ensures rest { IfOk result (λ n. drop n page.new ≡ drop n page.old) }
-    ensures none { OnErr result ((b : Versioned) → are_bytes b.bytes → Send kind b (send_record desc.now) → ⊥) }
+    ensures none { OnErr result ((ffa : Ffa) (b : Versioned) → are_bytes b.bytes → Send ffa kind b (send_record desc.now) → ⊥) }
     ensures kept { OnErr result (page.new ≡ page.old) }
 {
     match find_unfit(kind, desc) {

@@ -11,7 +11,7 @@ ghost use Rattle.ffa_physmem.specs.Moments.{IsBeside};
 use super::*;
 use crate::checks::{alike, same};
 use ffa_manifest::{ManifestError, of_parts};
-use ffa_model::{Address, Effect, Op, Outcome, PageNo, Size};
+use ffa_model::{Address, Effect, Ffa, Op, Outcome, PageNo, Size};
 use ffa_physmem::{FlatRam, Observed, PhysMem};
 use ffa_spmc::{Cluster, Fill, Machine, Storage};
 use fixtures::{FIRST, partition, word, writable};
@@ -20,7 +20,7 @@ use fixtures::{FIRST, partition, word, writable};
 fn three_partitions() -> Result<Manifest, ManifestError> {
     let mut endpoints = row_machine().endpoints;
     endpoints.push(partition(0x20, writable(0x4004_0000, 16)));
-    of_parts(0x4000_0000, 1, PageNo(0), endpoints)
+    of_parts(0x4000_0000, 1, PageNo(0), endpoints, Ffa::V1_1)
 }
 
 // The first page of the first partition's TX, and the words of the page that its descriptor names and of its message's receiver.

@@ -11,6 +11,7 @@ ghost use Rattle.ffa_model.specs.Calls.{first_refusal};
 ghost use Rattle.ffa_model.specs.DescriptorPlaces.{Versioned};
 ghost use Rattle.ffa_model.specs.Identifiers.{identifier, place};
 ghost use Rattle.ffa_model.specs.MemorySend.{are_known, is_inside, is_sendable, record_guards, room_guards, send_guards, world_guards};
+ghost use Rattle.ffa_model.specs.declared.manifest.Ffa.{Ffa};
 ghost use Rattle.ffa_model.specs.SendDescriptor.{is_named, send_of, send_record};
 ghost use Rattle.ffa_model.specs.Transactions.{next_handle, sends_of};
 ghost use Rattle.ffa_rxtx.specs.Parts.{ownership_in};
@@ -63,19 +64,19 @@ impl<O: Room<OpenSlot> + Drop> Pool<O> {
         requires caller { IsCaller (memory_of (M.ram ram.now) layout.now pages.now) buffers.now caller.0 }
         requires endpoints { length self.now.sent ≡ array_vec_len layout.now.regions }
         ensures refusal { let parts = memory_parts (M.ram ram.now) layout.now pages.now buffers.now self.now in
-            let offer = send_of kind (descriptor_in (M.ram ram.now) buffers.now caller.0 call.now) in
+            let offer = send_of call.now.ffa kind (descriptor_in (M.ram ram.now) buffers.now caller.0 call.now) in
             result_err result ≡ first_refusal (send_guards (scene_in parts) caller.0 call.now.transfer offer) }
         ensures handle { OnOk result (draft.new.transaction.handle ≡ next_handle (open_in self.now) caller.0) }
         ensures offered { let bytes = descriptor_in (M.ram ram.now) buffers.now caller.0 call.now in
             let opened = view_of draft.new.transaction in
             let normal = normal_in layout.now in
-            OnOk result (DescribesOffer pages.now layout.now.base.0 normal caller.0 kind bytes opened) }
+            OnOk result (DescribesOffer pages.now layout.now.base.0 normal caller.0 call.now.ffa kind bytes opened) }
         ensures free { IfOk result (IsFree self.now.slots (place caller.0)) }
         ensures few { OnOk result (sends_of (open_in self.now) caller.0 < MOST_SENDS) }
         ensures fits { IfOk result (λ slot. slot < MOST_SLOTS) }
     {
         let found = call.descriptor(ram, buffers, caller)?;
-        let Ok(()) = read_send(&found.bytes, call.version, kind, &mut draft.offer) else {
+        let Ok(()) = read_send(&found.bytes, call.ffa, call.version, kind, &mut draft.offer) else {
             return Err(Refusal::DescriptorMalformed);
         };
         self.check_offered(
@@ -110,8 +111,8 @@ impl<O: Room<OpenSlot> + Drop> Pool<O> {
             ++ (world_guards owners (normal_in layout.now) send ++ room_guards (open_in self.now) caller.0)) }
         ensures handle { OnOk result (transaction.new.handle ≡ next_handle (open_in self.now) caller.0) }
         ensures offered { let send = send_record offer.now in
-            (bytes : Versioned) → send_of kind bytes ≡ Some send → is_named send.sender send.receivers ≡ false
-            → OnOk result (DescribesOffer pages.now layout.now.base.0 (normal_in layout.now) caller.0 kind bytes (view_of transaction.new)) }
+            (ffa : Ffa) (bytes : Versioned) → send_of ffa kind bytes ≡ Some send → is_named send.sender send.receivers ≡ false
+            → OnOk result (DescribesOffer pages.now layout.now.base.0 (normal_in layout.now) caller.0 ffa kind bytes (view_of transaction.new)) }
         ensures free { IfOk result (IsFree self.now.slots (place caller.0)) }
         ensures few { OnOk result (sends_of (open_in self.now) caller.0 < MOST_SENDS) }
         ensures fits { IfOk result (λ slot. slot < MOST_SLOTS) }

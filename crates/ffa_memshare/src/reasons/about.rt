@@ -70,8 +70,8 @@ impl<O: Room<OpenSlot> + Drop> Pool<O> {
         requires endpoints { length self.now.sent ≡ array_vec_len layout.now.regions }
         ensures { let scene = scene_in (memory_parts (M.ram ram.now) layout.now pages.now buffers.now self.now) in
             let bytes = descriptor_in (M.ram ram.now) buffers.now caller.0 call.now in
-            let told = sent_told scene caller.0 kind call.now.transfer bytes in
-            result ≡ option_map told (first_refusal (send_guards scene caller.0 call.now.transfer (send_of kind bytes))) }
+            let told = sent_told scene caller.0 call.now.ffa kind call.now.transfer bytes in
+            result ≡ option_map told (first_refusal (send_guards scene caller.0 call.now.transfer (send_of call.now.ffa kind bytes))) }
     {
         let found = match call.descriptor(ram, buffers, caller) {
             Ok(found) => found,
@@ -80,7 +80,7 @@ impl<O: Room<OpenSlot> + Drop> Pool<O> {
         let receivers = field_value(&found.bytes, &COUNT);
         let mut draft = Draft::none();
         let offer = &mut draft.offer;
-        if let Err(flaw) = read_send(&found.bytes, call.version, kind, offer) {
+        if let Err(flaw) = read_send(&found.bytes, call.ffa, call.version, kind, offer) {
             let told = Explained {
                 about: Some(about_field(&found.bytes, call.version, flaw)),
                 page: None,

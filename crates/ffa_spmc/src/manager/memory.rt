@@ -47,8 +47,13 @@ impl<M: PhysMem + Drop, S: Store> Manager<M, S> {
         ensures done { IsTold self.old self.new (memory_send self.old.state kind transfer) result news.new }
         ensures told { news.new ≡ option_or (change_told result news.new) news.old }
     {
+        let ffa = self.kept.manifest.ffa;
         let version = self.version();
-        let call = DescriptorCall { transfer, version };
+        let call = DescriptorCall {
+            transfer,
+            ffa,
+            version,
+        };
         let runner = self.kept.chain.runner();
         let kept = &mut self.kept;
         let pool = &mut kept.pool;
@@ -87,8 +92,13 @@ impl<M: PhysMem + Drop, S: Store> Manager<M, S> {
         ensures done { IsTold self.old self.new (memory_retrieve self.old.state transfer) result news.new }
         ensures told { news.new ≡ option_or (change_told result news.new) news.old }
     {
+        let ffa = self.kept.manifest.ffa;
         let version = self.version();
-        let call = DescriptorCall { transfer, version };
+        let call = DescriptorCall {
+            transfer,
+            ffa,
+            version,
+        };
         let runner = self.kept.chain.runner();
         let kept = &mut self.kept;
         let pool = &mut kept.pool;

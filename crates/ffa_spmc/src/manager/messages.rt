@@ -1,9 +1,10 @@
 // SPDX-License-Identifier: MIT OR Apache-2.0
 //! The calls on run states, and messages.
-ghost use Rattle.std.specs.Prelude.{false, ◌≡◌, ◌==◌};
+ghost use Rattle.std.specs.Prelude.{false, true, ◌≡◌, ◌==◌};
 ghost use Rattle.ffa_model.specs.declared.function.TheConstants.{FFA_ERROR};
 ghost use Rattle.ffa_model.specs.Messages.{msg_send2};
-ghost use Rattle.ffa_model.specs.RunStates.{direct_request, direct_response, msg_wait, run_partition, yield_now};
+ghost use Rattle.ffa_model.specs.RunStates.{direct_request, direct_response, keeps_rx, msg_wait, run_partition, yield_now};
+ghost use Rattle.ffa_model.specs.State.{version_of};
 ghost use Rattle.ffa_spmc.specs.Served.{IsReplied};
 
 use super::Manager;
@@ -12,6 +13,7 @@ use crate::storage::Store;
 use ffa_messages::{direct_req, direct_resp, send2};
 use ffa_model::{DirectMessage, EndpointId, Reply};
 use ffa_physmem::PhysMem;
+use ffa_schedule::keeps_rx;
 
 impl<M: PhysMem + Drop, S: Store> Manager<M, S> {
     // FFA_RUN of the runner.
@@ -21,9 +23,29 @@ impl<M: PhysMem + Drop, S: Store> Manager<M, S> {
         reply_or_error(self.kept.chain.run_partition(target, context))
     }
 
-    // FFA_MSG_WAIT of the runner, whose RX is empty then.
-    pub(super) fn msg_wait(&mut self) -> Reply
-        ensures { IsReplied self.old self.new (msg_wait self.old.state) result }
+    // FFA_MSG_WAIT of the runner, whose RX is empty then, unless the flags keep it as it is.
+    pub(super) fn msg_wait(&mut self, flags: u32) -> Reply
+        ensures { IsReplied self.old self.new (msg_wait self.old.state flags) result }
+    {
+        if keeps_rx(self.version(), flags) {
+            self.wait_with_rx(flags)
+        } else {
+            self.wait_without_rx(flags)
+        }
+    }
+
+    // The same, where the flags keep RX.
+    fn wait_with_rx(&mut self, _flags: u32) -> Reply
+        requires { keeps_rx (version_of self.old.state self.old.state.runner) _flags ≡ true }
+        ensures { IsReplied self.old self.new (msg_wait self.old.state _flags) result }
+    {
+        reply_or_error(self.kept.chain.wait())
+    }
+
+    // The same, where they don't.
+    fn wait_without_rx(&mut self, _flags: u32) -> Reply
+        requires { keeps_rx (version_of self.old.state self.old.state.runner) _flags ≡ false }
+        ensures { IsReplied self.old self.new (msg_wait self.old.state _flags) result }
     {
         let runner = self.kept.chain.runner();
         let result = self.kept.chain.wait();
@@ -61,9 +83,11 @@ impl<M: PhysMem + Drop, S: Store> Manager<M, S> {
     pub(super) fn msg_send2(&mut self) -> Reply
         ensures { IsReplied self.old self.new (msg_send2 self.old.state) result }
     {
+        let version = self.version();
         let runner = self.kept.chain.runner();
         let kept = &mut self.kept;
-        match send2(&mut self.ram, &mut kept.buffers, &kept.manifest, runner) {
+        let (ram, buffers) = (&mut self.ram, &mut kept.buffers);
+        match send2(ram, buffers, &kept.manifest, version, runner) {
             Ok(receiver) => {
                 kept.bitmaps.raise_framework(receiver);
                 DONE

@@ -30,8 +30,9 @@ impl<M: PhysMem + Drop, S: Store> Manager<M, S> {
     pub(super) fn bitmap_create(&mut self, endpoint: u32, contexts: u32) -> Reply
         ensures { IsReplied self.old self.new (bitmap_create self.old.state endpoint contexts) result }
     {
+        let ffa = self.kept.manifest.ffa;
         let runner = self.kept.chain.runner();
-        done_or_error(self.kept.bitmaps.create(runner, endpoint, contexts))
+        done_or_error(self.kept.bitmaps.create(ffa, runner, endpoint, contexts))
     }
 
     // FFA_NOTIFICATION_BITMAP_DESTROY of the runner.
@@ -75,7 +76,8 @@ impl<M: PhysMem + Drop, S: Store> Manager<M, S> {
     ) -> Reply
         ensures { IsReplied self.old self.new (notification_get self.old.state receiver.0 context flags) result }
     {
+        let ffa = self.kept.manifest.ffa;
         let runner = self.kept.chain.runner();
-        reply_or_error(self.kept.bitmaps.get(runner, receiver, context, flags))
+        reply_or_error(self.kept.bitmaps.get(ffa, runner, receiver, context, flags))
     }
 }

@@ -10,5 +10,5 @@ use Rattle.ffa_manifest.proofs.endpoints.endpoints_from.Given as goal
 abbrev pub invariant-loop-value : goal.invariant-loop-value
 invariant-loop-value l = record {
   count : length l.endpoints.items ≡ l.value-index;
-  rest : read_each (next_endpoint (is_in l.space)) l.endpoints.items (items_view (drop l.value-index l.values)) ≡ read_each (next_endpoint (is_in l.space)) [] (items_view l.values);
+  rest : read_each (next_endpoint l.ffa (is_in l.space)) l.endpoints.items (items_view (drop l.value-index l.values)) ≡ read_each (next_endpoint l.ffa (is_in l.space)) [] (items_view l.values);
 }

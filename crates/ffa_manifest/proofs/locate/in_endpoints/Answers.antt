@@ -35,7 +35,7 @@ loop-index-preserved c =
     let there = get_item-view c.args.values.now c.loop-index.index c.index-values-index.result c.loop-index-test.true c.index-values-index.is in
     let read = rw c.as_slice.ensures.value at c.in-Ok.ensures in
     let more =
-    read_each-next (next_endpoint (is_in c.args.space.now)) _ (items_view c.args.values.now) c.loop-index.index
+    read_each-next (next_endpoint c.args.ffa (is_in c.args.space.now)) _ (items_view c.args.values.now) c.loop-index.index
     (view c.index-values-index.result) c.loop-index.before.items c.in-Ok.endpoint there c.loop-index.invariant.read read in
     record {
       count = omega (arith, c.push.ensures.len);

@@ -10,5 +10,5 @@ use Rattle.ffa_manifest.proofs.locate.in_endpoints.Given as goal
 abbrev pub invariant-loop-index : goal.invariant-loop-index
 invariant-loop-index l = record {
   count : length l.before.items ≡ l.index;
-  read : endpoints_from (is_in l.space) (first_items l.index (items_view l.values)) ≡ Ok l.before.items;
+  read : endpoints_from l.ffa (is_in l.space) (first_items l.index (items_view l.values)) ≡ Ok l.before.items;
 }

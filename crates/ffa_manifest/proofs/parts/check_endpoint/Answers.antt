@@ -9,6 +9,7 @@ pub returns : goal.returns
 unfolding endpoint_tests
 returns c =
     let some : is_from_to 1 MOST_REGIONS (length c.args.endpoint.now.regions.items) ≡ true = search rules in
+    let versioned : c.is_version.result ≡ true = search rules in
     let identified : c.is_uuid_after.result ≡ true = search rules in
     let bounded : c.are_properties_after.result ≡ true = search rules in
-    rw (← c.is_uuid_after.ensures, ← c.are_properties_after.ensures, some, identified, bounded) (rw c.as_slice.ensures.value at c.check_regions.ensures)
+    rw (← c.is_version.ensures, ← c.is_uuid_after.ensures, ← c.are_properties_after.ensures, some, versioned, identified, bounded) (rw c.as_slice.ensures.value at c.check_regions.ensures)

@@ -24,7 +24,7 @@ pub returns-clause-broken_relinquish : goal.returns-clause-broken_relinquish
 returns-clause-broken_relinquish c = relinquish_breaks
 
 pub returns-clause-send : goal.returns-clause-send
-returns-clause-send c = λ kind b r. (send_again kind b r, send_told kind b r)
+returns-clause-send c = λ ffa kind b r. (send_again ffa kind b r, send_told ffa kind b r)
 
 pub returns-clause-retrieve : goal.returns-clause-retrieve
 returns-clause-retrieve c = λ e b r. (retrieve_again e b r, retrieve_told e b r)

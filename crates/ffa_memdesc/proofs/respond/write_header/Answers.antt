@@ -13,7 +13,7 @@ returns c =
     let attributes = subst (λ (x : ℕ). Wrote c.args.out.now (le 2 c.args.response.now.sender.0 ++ le 2 x) 4 c.put_u16-2.new.out) c.attributes_told.ensures w2 in
     let w3 = four _ _ _ _ 4 8 _ refl attributes c.put_u32.ensures in
     let flags =
-    subst (λ (x : ℕ). Wrote c.args.out.now (le 2 c.args.response.now.sender.0 ++ le 2 (attributes_told c.args.response.now.normal) ++ le 4 x) 8 c.put_u32.new.out)
+    subst (λ (x : ℕ). Wrote c.args.out.now (le 2 c.args.response.now.sender.0 ++ le 2 (attributes_told c.args.version c.args.response.now.normal) ++ le 4 x) 8 c.put_u32.new.out)
     c.flags_of.ensures w3
     in
     let w4 = eight _ _ _ _ 8 16 _ refl flags c.put_u64.ensures in

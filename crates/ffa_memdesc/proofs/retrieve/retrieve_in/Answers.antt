@@ -22,22 +22,22 @@ read_access-access-requires g c =
 
 pub returns-in-Err-check_access-clause-first : goal.returns-in-Err-check_access-clause-first
 returns-in-Err-check_access-clause-first g c =
-    let access : c.read_access-access.result ≡ access_in (g.B.Bytes.bytes c.args.bytes.now) (array_place (in_version c.args.version (g.B.Bytes.bytes c.args.bytes.now))) =
-    c.read_access-access.ensures ∙ ap (λ (h : Header). access_in (g.B.Bytes.bytes c.args.bytes.now) h.array) c.in-Ok.ensures.found in
+    let access : c.read_access-access.result ≡ access_in (in_version c.args.version (g.B.Bytes.bytes c.args.bytes.now)) (array_place (in_version c.args.version (g.B.Bytes.bytes c.args.bytes.now))) =
+    c.read_access-access.ensures ∙ ap (λ (h : Header). access_in (in_version c.args.version (g.B.Bytes.bytes c.args.bytes.now)) h.array) c.in-Ok.ensures.found in
     let b = in_version c.args.version (g.B.Bytes.bytes c.args.bytes.now) in
     first_in_access c.args.endpoint.0 b _ c.in-Ok.ensures.first (c.in_default.ensures.first b c.in-Ok.ensures.found) (c.in-Err-check_access.ensures.first b access)
 
 pub returns-clause-first : goal.returns-clause-first
 returns-clause-first g c =
-    let access : c.read_access-access.result ≡ access_in (g.B.Bytes.bytes c.args.bytes.now) (array_place (in_version c.args.version (g.B.Bytes.bytes c.args.bytes.now))) =
-    c.read_access-access.ensures ∙ ap (λ (h : Header). access_in (g.B.Bytes.bytes c.args.bytes.now) h.array) c.in-Ok.ensures.found in
+    let access : c.read_access-access.result ≡ access_in (in_version c.args.version (g.B.Bytes.bytes c.args.bytes.now)) (array_place (in_version c.args.version (g.B.Bytes.bytes c.args.bytes.now))) =
+    c.read_access-access.ensures ∙ ap (λ (h : Header). access_in (in_version c.args.version (g.B.Bytes.bytes c.args.bytes.now)) h.array) c.in-Ok.ensures.found in
     let b = in_version c.args.version (g.B.Bytes.bytes c.args.bytes.now) in
     first_in_access c.args.endpoint.0 b _ c.in-Ok.ensures.first (c.in_default.ensures.first b c.in-Ok.ensures.found) (c.in_default-check_access.ensures.first b access)
 
 pub returns-clause-found : goal.returns-clause-found
 returns-clause-found g c =
-    let access : c.read_access-access.result ≡ access_in (g.B.Bytes.bytes c.args.bytes.now) (array_place (in_version c.args.version (g.B.Bytes.bytes c.args.bytes.now))) =
-    c.read_access-access.ensures ∙ ap (λ (h : Header). access_in (g.B.Bytes.bytes c.args.bytes.now) h.array) c.in-Ok.ensures.found in
+    let access : c.read_access-access.result ≡ access_in (in_version c.args.version (g.B.Bytes.bytes c.args.bytes.now)) (array_place (in_version c.args.version (g.B.Bytes.bytes c.args.bytes.now))) =
+    c.read_access-access.ensures ∙ ap (λ (h : Header). access_in (in_version c.args.version (g.B.Bytes.bytes c.args.bytes.now)) h.array) c.in-Ok.ensures.found in
     whole_retrieve c.args.endpoint.0 (in_version c.args.version (g.B.Bytes.bytes c.args.bytes.now)) c.in-Ok.header c.read_access-access.result _ _ _ _
     c.in-Ok.ensures.whole c.in-Ok.ensures.found (c.in_default.ensures.fits (in_version c.args.version (g.B.Bytes.bytes c.args.bytes.now)) c.in-Ok.ensures.found)
     (c.in_default-check_access.ensures.fits (in_version c.args.version (g.B.Bytes.bytes c.args.bytes.now)) access) c.read_access-access.ensures

@@ -1,9 +1,9 @@
 -- SPDX-License-Identifier: MIT OR Apache-2.0
-use Rattle.std.proofs.Common.{◌∙◌, ◌++◌, ◌≤◌, ℕ, List, Option, drop, length, sym, ap, subst, arith}
+use Rattle.std.proofs.Common.{◌∙◌, ◌++◌, ◌+◌, ◌≤◌, ℕ, List, Option, drop, length, sym, ap, subst, arith}
 use Rattle.std.specs.Prelude.{IsSomeAnd}
 use Rattle.ffa_model.specs.declared.endpoint.Version.{Version}
-use Rattle.ffa_model.specs.declared.endpoint.Version.TheVariants.{Compact, V1_1}
-use Rattle.ffa_model.specs.DescriptorPlaces.{header_size}
+use Rattle.ffa_model.specs.declared.endpoint.Version.TheVariants.{Compact, V1_1, V1_2}
+use Rattle.ffa_model.specs.DescriptorPlaces.{accesses_size, header_size}
 use Rattle.ffa_model.specs.Ram.{with_page}
 use Rattle.ffa_physmem.proofs.Moments.{Only-map}
 use Rattle.ffa_rxtx.proofs.Moments.{rx-loan, rx-written}
@@ -15,9 +15,10 @@ use Rattle.ffa_rxtx.proofs.Runs.{short-run}
 use Rattle.ffa_model.proofs.ResponseSize.{length-response_bytes}
 use Rattle.ffa_memshare.proofs.respond.deliver.Goals as goal
 
-header-few : (version : Version) → header_size version ≤ 48
+header-few : (version : Version) → header_size version + accesses_size version 1 ≤ 80
 header-few Compact = omega arith
 header-few V1_1 = omega arith
+header-few V1_2 = omega arith
 
 pub returns-clause-ram : goal.returns-clause-ram
 returns-clause-ram g c =

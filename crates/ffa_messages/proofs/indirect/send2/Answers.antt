@@ -22,16 +22,16 @@ deliver-requires-clause-to g c =
 
 pub returns-in_err-message-clause-refusal : goal.returns-in_err-message-clause-refusal
 returns-in_err-message-clause-refusal g c =
-    answers-code (send2_guards (map party_of c.args.manifest.now.endpoints.items) c.args.buffers.now c.args.caller.0 (header_in (sent_in (g.M.PhysMem.ram c.args.ram.now) c.args.buffers.now c.args.caller.0))) c.in_err-message.field-0.0 c.from_residual.result c.in_err-message.ensures.refusal c.from_residual.ensures.1
+    answers-code (send2_guards (map party_of c.args.manifest.now.endpoints.items) c.args.buffers.now c.args.version c.args.caller.0 (header_in (sent_in (g.M.PhysMem.ram c.args.ram.now) c.args.buffers.now c.args.caller.0))) c.in_err-message.field-0.0 c.from_residual.result c.in_err-message.ensures.refusal c.from_residual.ensures.1
 
 pub returns-clause-refusal : goal.returns-clause-refusal
 returns-clause-refusal g c =
-    answers-pass (send2_guards (map party_of c.args.manifest.now.endpoints.items) c.args.buffers.now c.args.caller.0 (header_in (sent_in (g.M.PhysMem.ram c.args.ram.now) c.args.buffers.now c.args.caller.0))) c.in_ok-message.ensures.refusal
+    answers-pass (send2_guards (map party_of c.args.manifest.now.endpoints.items) c.args.buffers.now c.args.version c.args.caller.0 (header_in (sent_in (g.M.PhysMem.ram c.args.ram.now) c.args.buffers.now c.args.caller.0))) c.in_ok-message.ensures.refusal
 
 pub deliver-requires-clause-apart : goal.deliver-requires-clause-apart
 deliver-requires-clause-apart g c =
-    rx_beside _ (g.M.PhysMem.ram c.args.ram.now) c.args.buffers.now c.args.caller.0 c.in_ok-message.message.receiver.0 (buffers_of c.in_ok-message.message.from) c.requires.apart
-    (answers-pass (send2_guards (map party_of c.args.manifest.now.endpoints.items) c.args.buffers.now c.args.caller.0 (header_in (sent_in (g.M.PhysMem.ram c.args.ram.now) c.args.buffers.now c.args.caller.0))) c.in_ok-message.ensures.refusal)
+    rx_beside _ (g.M.PhysMem.ram c.args.ram.now) c.args.buffers.now c.args.version c.args.caller.0 c.in_ok-message.message.receiver.0 (buffers_of c.in_ok-message.message.from) c.requires.apart
+    (answers-pass (send2_guards (map party_of c.args.manifest.now.endpoints.items) c.args.buffers.now c.args.version c.args.caller.0 (header_in (sent_in (g.M.PhysMem.ram c.args.ram.now) c.args.buffers.now c.args.caller.0))) c.in_ok-message.ensures.refusal)
     c.in_ok-message.ensures.from c.in_ok-message.ensures.receiver c.in_ok-message.ensures.buffers
 
 pub returns-in_err-message-clause-steps : goal.returns-in_err-message-clause-steps

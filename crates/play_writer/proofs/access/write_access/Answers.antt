@@ -1,7 +1,7 @@
 -- SPDX-License-Identifier: MIT OR Apache-2.0
 use Rattle.std.proofs.Common.{◌+◌, refl, arith}
 use Rattle.ffa_model.specs.ResponseBytes.{le}
-use Rattle.ffa_memdesc.proofs.Writes.{one, two, four, eight, wrote_as, five_parts}
+use Rattle.ffa_memdesc.proofs.Writes.{one, two, four, wrote_as, five_parts}
 use Rattle.play_writer.proofs.access.write_access.Goals as goal
 
 pub returns-clause-bytes : goal.returns-clause-bytes
@@ -11,5 +11,5 @@ returns-clause-bytes c = λ old front w0.
     let w2 = one _ _ _ _ (at + 2) (at + 3) _ (omega arith) w1 c.put_u8.ensures in
     let w3 = one _ _ _ _ (at + 3) (at + 4) _ (omega arith) w2 c.put_u8-2.ensures in
     let w4 = four _ _ _ _ (at + 4) (at + 8) _ (omega arith) w3 c.put_u32.ensures in
-    let w5 = eight _ _ _ _ (at + 8) (at + 16) _ (omega arith) w4 c.put_u64.ensures in
+    let w5 = c.write_access_rest.ensures old _ w4 in
     wrote_as _ _ _ _ _ (five_parts front (le 2 c.args.endpoint.0) _ _ _ _) w5

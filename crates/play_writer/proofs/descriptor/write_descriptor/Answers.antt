@@ -6,3 +6,6 @@ use Rattle.play_writer.proofs.descriptor.write_descriptor.Goals as goal
 pub returns-in-Send-clause-inside : goal.returns-in-Send-clause-inside
 returns-in-Send-clause-inside c =
     fits_page c.args.version c.in-Send.kind (send_record c.in-Send.desc) c.write_send.new.page c.write_send.result c.write_send.ensures.size c.write_send.ensures.read
+
+pub returns-in-Send-clause-said : goal.returns-in-Send-clause-said
+returns-in-Send-clause-said c = rw c.in-Send.is c.write_send.ensures.read

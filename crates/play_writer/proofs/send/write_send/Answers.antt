@@ -4,4 +4,4 @@ use Rattle.play_writer.proofs.Needs.{needs}
 use Rattle.play_writer.proofs.send.write_send.Goals as goal
 
 pub returns-in-Some-clause-none : goal.returns-in-Some-clause-none
-returns-in-Some-clause-none c b bytes is = let none = needs c.args.kind b (send_record c.args.desc.now) bytes is in absurd cc
+returns-in-Some-clause-none c ffa b bytes is = let none = needs ffa c.args.kind b (send_record c.args.desc.now) bytes is in absurd cc

@@ -59,7 +59,7 @@ returns-clause-refusal g c =
     ∙ first-pass (record_guards (array_vec_len l.regions) ram c.args.buffers.now c.args.caller.0 send) (worlds ++ rooms) c.in_ok-check_offer.ensures.refusal
 
 pub returns-clause-offered : goal.returns-clause-offered
-returns-clause-offered g c bytes described other =
+returns-clause-offered g c ffa bytes described other =
     let send : SendRecord = send_record c.args.offer.now in
     record {
       offer = send;

@@ -12,10 +12,10 @@ check_offered-requires-clause-known g c = known-named (array_vec_len c.args.layo
 
 pub check_offered-requires-clause-aligned : goal.check_offered-requires-clause-aligned
 check_offered-requires-clause-aligned g c =
-    sent-aligned c.args.kind (in_version c.args.call.now.version c.in_ok-found.found.bytes) (send_record c.read_send.new.offer) c.in-Ok.ensures.found
+    sent-aligned c.args.call.now.ffa c.args.kind (in_version c.args.call.now.version c.in_ok-found.found.bytes) (send_record c.read_send.new.offer) c.in-Ok.ensures.found
 
 pub returns-clause-offered : goal.returns-clause-offered
 returns-clause-offered g c =
-    c.check_offered.ensures.offered _
-    (sym (ap (λ b. send_of c.args.kind (in_version c.args.call.now.version b)) c.in_ok-found.ensures.bytes) ∙ sym c.in-Ok.ensures.computed)
-    (sent-other c.args.kind (in_version c.args.call.now.version c.in_ok-found.found.bytes) (send_record c.read_send.new.offer) c.in-Ok.ensures.found)
+    c.check_offered.ensures.offered c.args.call.now.ffa _
+    (sym (ap (λ b. send_of c.args.call.now.ffa c.args.kind (in_version c.args.call.now.version b)) c.in_ok-found.ensures.bytes) ∙ sym c.in-Ok.ensures.computed)
+    (sent-other c.args.call.now.ffa c.args.kind (in_version c.args.call.now.version c.in_ok-found.found.bytes) (send_record c.read_send.new.offer) c.in-Ok.ensures.found)

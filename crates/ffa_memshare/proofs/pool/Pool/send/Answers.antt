@@ -14,7 +14,7 @@ returns-in_err-slot-clause-refusal g c =
     let l = c.args.layout.now in
     answers-code
     (send_guards (scene_in (memory_parts (g.M.PhysMem.ram c.args.ram.now) l c.args.pages.now c.args.buffers.now c.args.self.now)) c.args.caller.0 c.args.call.now.transfer
-    (send_of c.args.kind (descriptor_in (g.M.PhysMem.ram c.args.ram.now) c.args.buffers.now c.args.caller.0 c.args.call.now)))
+    (send_of c.args.call.now.ffa c.args.kind (descriptor_in (g.M.PhysMem.ram c.args.ram.now) c.args.buffers.now c.args.caller.0 c.args.call.now)))
     c.in_err-slot.field-0.0 c.from_residual.result c.in_err-slot.ensures.refusal c.from_residual.ensures.1
 
 pub returns-clause-refusal : goal.returns-clause-refusal
@@ -22,7 +22,7 @@ returns-clause-refusal g c =
     let l = c.args.layout.now in
     answers-pass
     (send_guards (scene_in (memory_parts (g.M.PhysMem.ram c.args.ram.now) l c.args.pages.now c.args.buffers.now c.args.self.now)) c.args.caller.0 c.args.call.now.transfer
-    (send_of c.args.kind (descriptor_in (g.M.PhysMem.ram c.args.ram.now) c.args.buffers.now c.args.caller.0 c.args.call.now)))
+    (send_of c.args.call.now.ffa c.args.kind (descriptor_in (g.M.PhysMem.ram c.args.ram.now) c.args.buffers.now c.args.caller.0 c.args.call.now)))
     c.in_ok-slot.ensures.refusal
 
 pub take_pages-requires : goal.take_pages-requires

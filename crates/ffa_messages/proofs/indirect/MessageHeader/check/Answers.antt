@@ -9,8 +9,8 @@ returns-then-not-is_among-clause-refusal c = grind (arith, common_steps)
 pub returns-then-eq-clause-refusal : goal.returns-then-eq-clause-refusal
 returns-then-eq-clause-refusal c = grind (arith, common_steps)
 
-pub returns-then-self-lt-HEADER_SIZE-clause-refusal : goal.returns-then-self-lt-HEADER_SIZE-clause-refusal
-returns-then-self-lt-HEADER_SIZE-clause-refusal c = grind (arith, common_steps)
+pub returns-then-self-header_size-clause-refusal : goal.returns-then-self-header_size-clause-refusal
+returns-then-self-header_size-clause-refusal c = grind (arith, common_steps)
 
 pub returns-then-self-eq0-clause-refusal : goal.returns-then-self-eq0-clause-refusal
 returns-then-self-eq0-clause-refusal c = grind (arith, common_steps)

@@ -10,5 +10,5 @@ pub returns : goal.returns
 returns g c =
     let x = lent_parts g.M.PhysMem.ram c.self.inside.parts in
     let view = c.self.invariant.state ∙ c.self.view_is in
-    seen-refusal x c.args.self.now view (λ (s : State). msg_wait s) c.err.result
+    seen-refusal x c.args.self.now view (λ (s : State). msg_wait s 0) c.err.result
     (c.err.ensures.value ∙ c.check_wait.ensures.refusal)

@@ -11,6 +11,6 @@ pub returns : goal.returns
 returns g c =
     let x = lent_parts g.M.PhysMem.ram c.self.inside.parts in
     let view = c.self.invariant.state ∙ c.self.view_is in
-    c.form_of.ensures
+    c.of_endpoint.ensures
     ∙ version-seen x (managed_of x (unrecorded no_site)) refl c.runner.result.0 c.runner.ensures.runner
     ∙ ap (λ (s : State). version_of s s.runner) view

@@ -17,7 +17,7 @@ pub returns : goal.returns
 returns g c =
     let x = lent_parts g.M.PhysMem.ram c.self.inside.parts in
     let view = c.self.invariant.state ∙ c.self.view_is in
-    let its : DescriptorCall = record { transfer = c.args.transfer; version = c.version-version.result } in
+    let its : DescriptorCall = record { transfer = c.args.transfer; ffa = x.manifest.ffa; version = c.version-version.result } in
     seen-in x c.args.self.now view (λ (s : State). with_told s (MemRetrieve c.args.transfer) (first_refusal (memory_retrieve s c.args.transfer).guards)) c.why_retrieve.result
     (c.why_retrieve.ensures ∙ retrieve-told x c.self.invariant.managed c.runner-runner.result.0 c.runner-runner.ensures.runner its
     (c.version-version.ensures ∙ sym (ap (λ (s : State). version_of s s.runner) view)))

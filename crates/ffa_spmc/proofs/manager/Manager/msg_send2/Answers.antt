@@ -20,6 +20,7 @@ use Rattle.ffa_spmc.proofs.Fills.{known-buffered, runner-there}
 use Rattle.ffa_spmc.proofs.Inside.{parts_of}
 use Rattle.ffa_spmc.proofs.manager.Manager.msg_send2.Goals.{in-Ok, in-Err}
 use Rattle.ffa_spmc.proofs.manager.Manager.msg_send2.Goals as goal
+use Rattle.ffa_model.specs.State.{version_of}
 
 -- a message that isn't sent
 unsent-past : {X P : Type 0} {r : Result X ErrorCode} (code : ErrorCode) → r ≡ Err code → OnErr r P → P
@@ -31,14 +32,14 @@ send2-requires g c =
     record {
       known = known-buffered x c.self.invariant c.runner-runner.result.0 (runner-there x c.self.invariant c.runner-runner.result.0 c.runner-runner.ensures.runner);
       pages = buffers-in-ram x c.self.invariant;
-      apart = ends-apart x c.self.invariant c.runner-runner.result.0 c.runner-runner.ensures.runner;
+      apart = ends-apart x c.self.invariant c.runner-runner.result.0 c.runner-runner.ensures.runner c.version-version.result (c.version-version.ensures ∙ sym (ap (λ (seen : Managed). version_of seen.state seen.state.runner) c.self.view_is));
     }
 
 pub raise_framework-requires : goal.raise_framework-requires
 raise_framework-requires g c =
     let x = parts_of g.M.PhysMem.ram c.self.inside in
     known-notified x c.self.invariant c.in-Ok.receiver.0
-    (told-known x c.self.invariant c.runner-runner.result.0 c.runner-runner.ensures.runner c.send2.result (g.M.PhysMem.ram c.send2.new.ram) c.send2.new.buffers c.send2.ensures.refusal c.send2.ensures.kept_ram c.send2.ensures.kept c.send2.ensures.ram c.send2.ensures.full c.send2.ensures.receiver c.in-Ok.receiver c.in-Ok.is)
+    (told-known x c.self.invariant c.runner-runner.result.0 c.runner-runner.ensures.runner c.version-version.result (c.version-version.ensures ∙ sym (ap (λ (seen : Managed). version_of seen.state seen.state.runner) c.self.view_is)) c.send2.result (g.M.PhysMem.ram c.send2.new.ram) c.send2.new.buffers c.send2.ensures.refusal c.send2.ensures.kept_ram c.send2.ensures.kept c.send2.ensures.ram c.send2.ensures.full c.send2.ensures.receiver c.in-Ok.receiver c.in-Ok.is)
 
 pub invariant_of-self : goal.invariant_of-self
 invariant_of-self g c =
@@ -47,11 +48,11 @@ invariant_of-self g c =
       | in-Ok w ↦
           subst IsManager (ap (parts_of g.M.PhysMem.ram) (sym w.self-inside-is))
           (machine-served x (g.M.PhysMem.ram c.send2.new.ram) c.send2.new.buffers x.kept.chain w.raise_framework.new.self c.self.invariant
-          (tables-sent x c.self.invariant c.runner-runner.result.0 c.runner-runner.ensures.runner c.send2.result (g.M.PhysMem.ram c.send2.new.ram) c.send2.new.buffers c.send2.ensures.refusal c.send2.ensures.kept_ram c.send2.ensures.kept c.send2.ensures.ram c.send2.ensures.full c.send2.ensures.receiver w.in-Ok.receiver w.in-Ok.is) MsgSend2
-          (ap (λ (st : Stepped). st.state) (sent x c.self.invariant c.runner-runner.result.0 c.runner-runner.ensures.runner c.send2.result (g.M.PhysMem.ram c.send2.new.ram) c.send2.new.buffers c.send2.ensures.refusal c.send2.ensures.kept_ram c.send2.ensures.kept c.send2.ensures.ram c.send2.ensures.full c.send2.ensures.receiver w.in-Ok.receiver w.in-Ok.is w.raise_framework.new.self w.raise_framework.ensures)))
+          (tables-sent x c.self.invariant c.runner-runner.result.0 c.runner-runner.ensures.runner c.version-version.result (c.version-version.ensures ∙ sym (ap (λ (seen : Managed). version_of seen.state seen.state.runner) c.self.view_is)) c.send2.result (g.M.PhysMem.ram c.send2.new.ram) c.send2.new.buffers c.send2.ensures.refusal c.send2.ensures.kept_ram c.send2.ensures.kept c.send2.ensures.ram c.send2.ensures.full c.send2.ensures.receiver w.in-Ok.receiver w.in-Ok.is) MsgSend2
+          (ap (λ (st : Stepped). st.state) (sent x c.self.invariant c.runner-runner.result.0 c.runner-runner.ensures.runner c.version-version.result (c.version-version.ensures ∙ sym (ap (λ (seen : Managed). version_of seen.state seen.state.runner) c.self.view_is)) c.send2.result (g.M.PhysMem.ram c.send2.new.ram) c.send2.new.buffers c.send2.ensures.refusal c.send2.ensures.kept_ram c.send2.ensures.kept c.send2.ensures.ram c.send2.ensures.full c.send2.ensures.receiver w.in-Ok.receiver w.in-Ok.is w.raise_framework.new.self w.raise_framework.ensures)))
       | in-Err w ↦
           subst IsManager (ap (parts_of g.M.PhysMem.ram) (sym w.self-inside-is))
-          (subst IsManager (sym (unsent-parts x c.self.invariant c.runner-runner.result.0 c.runner-runner.ensures.runner c.send2.result (g.M.PhysMem.ram c.send2.new.ram) c.send2.new.buffers c.send2.ensures.refusal c.send2.ensures.kept_ram c.send2.ensures.kept c.send2.ensures.ram c.send2.ensures.full c.send2.ensures.receiver w.in-Err.code w.in-Err.is)) c.self.invariant)
+          (subst IsManager (sym (unsent-parts x c.self.invariant c.runner-runner.result.0 c.runner-runner.ensures.runner c.version-version.result (c.version-version.ensures ∙ sym (ap (λ (seen : Managed). version_of seen.state seen.state.runner) c.self.view_is)) c.send2.result (g.M.PhysMem.ram c.send2.new.ram) c.send2.new.buffers c.send2.ensures.refusal c.send2.ensures.kept_ram c.send2.ensures.kept c.send2.ensures.ram c.send2.ensures.full c.send2.ensures.receiver w.in-Err.code w.in-Err.is)) c.self.invariant)
     ]
 
 pub returns : goal.returns
@@ -59,21 +60,21 @@ returns g c =
     let x = parts_of g.M.PhysMem.ram c.self.inside in
     let kept =
     subst (λ (seen : Managed). KeepsUnowned seen.state seen.ram (g.M.PhysMem.ram c.send2.new.ram)) c.self.view_is
-    (send-unowned x c.self.invariant c.runner-runner.result.0 c.runner-runner.ensures.runner c.send2.result (g.M.PhysMem.ram c.send2.new.ram) c.send2.new.buffers c.send2.ensures.refusal c.send2.ensures.kept_ram c.send2.ensures.kept c.send2.ensures.ram c.send2.ensures.full c.send2.ensures.receiver) in
+    (send-unowned x c.self.invariant c.runner-runner.result.0 c.runner-runner.ensures.runner c.version-version.result (c.version-version.ensures ∙ sym (ap (λ (seen : Managed). version_of seen.state seen.state.runner) c.self.view_is)) c.send2.result (g.M.PhysMem.ram c.send2.new.ram) c.send2.new.buffers c.send2.ensures.refusal c.send2.ensures.kept_ram c.send2.ensures.kept c.send2.ensures.ram c.send2.ensures.full c.send2.ensures.receiver) in
     record {
       served =
           elim c.match-send2.branch [
             | in-Ok w ↦
                 (λ i. replied (state_of (parts_of g.M.PhysMem.ram (w.self-inside-is i))) (w.result-is i))
-                ∙ sent x c.self.invariant c.runner-runner.result.0 c.runner-runner.ensures.runner c.send2.result (g.M.PhysMem.ram c.send2.new.ram) c.send2.new.buffers c.send2.ensures.refusal c.send2.ensures.kept_ram c.send2.ensures.kept c.send2.ensures.ram c.send2.ensures.full c.send2.ensures.receiver w.in-Ok.receiver w.in-Ok.is w.raise_framework.new.self w.raise_framework.ensures
+                ∙ sent x c.self.invariant c.runner-runner.result.0 c.runner-runner.ensures.runner c.version-version.result (c.version-version.ensures ∙ sym (ap (λ (seen : Managed). version_of seen.state seen.state.runner) c.self.view_is)) c.send2.result (g.M.PhysMem.ram c.send2.new.ram) c.send2.new.buffers c.send2.ensures.refusal c.send2.ensures.kept_ram c.send2.ensures.kept c.send2.ensures.ram c.send2.ensures.full c.send2.ensures.receiver w.in-Ok.receiver w.in-Ok.is w.raise_framework.new.self w.raise_framework.ensures
             | in-Err w ↦
                 (λ i. replied (state_of (parts_of g.M.PhysMem.ram (w.self-inside-is i))) (w.result-is i))
-                ∙ unsent x c.self.invariant c.runner-runner.result.0 c.runner-runner.ensures.runner c.send2.result (g.M.PhysMem.ram c.send2.new.ram) c.send2.new.buffers c.send2.ensures.refusal c.send2.ensures.kept_ram c.send2.ensures.kept c.send2.ensures.ram c.send2.ensures.full c.send2.ensures.receiver w.in-Err.code w.in-Err.is
+                ∙ unsent x c.self.invariant c.runner-runner.result.0 c.runner-runner.ensures.runner c.version-version.result (c.version-version.ensures ∙ sym (ap (λ (seen : Managed). version_of seen.state seen.state.runner) c.self.view_is)) c.send2.result (g.M.PhysMem.ram c.send2.new.ram) c.send2.new.buffers c.send2.ensures.refusal c.send2.ensures.kept_ram c.send2.ensures.kept c.send2.ensures.ram c.send2.ensures.full c.send2.ensures.receiver w.in-Err.code w.in-Err.is
           ]
           ∙ ap (λ (seen : Managed). served seen.state (msg_send2 seen.state)) c.self.view_is;
       refused = elim c.match-send2.branch [
         | in-Ok w ↦ λ error. absurd (true≢false (sym error ∙ ap is_error w.result-is))
-        | in-Err w ↦ λ error. (λ i. managed_of ((ap (parts_of g.M.PhysMem.ram) w.self-inside-is ∙ unsent-parts x c.self.invariant c.runner-runner.result.0 c.runner-runner.ensures.runner c.send2.result (g.M.PhysMem.ram c.send2.new.ram) c.send2.new.buffers c.send2.ensures.refusal c.send2.ensures.kept_ram c.send2.ensures.kept c.send2.ensures.ram c.send2.ensures.full c.send2.ensures.receiver w.in-Err.code w.in-Err.is) i) ((ap (λ inside. g.M.PhysMem.past inside.ram) w.self-inside-is ∙ unsent-past w.in-Err.code w.in-Err.is c.send2.ensures.kept_past) i)) ∙ c.self.view_is
+        | in-Err w ↦ λ error. (λ i. managed_of ((ap (parts_of g.M.PhysMem.ram) w.self-inside-is ∙ unsent-parts x c.self.invariant c.runner-runner.result.0 c.runner-runner.ensures.runner c.version-version.result (c.version-version.ensures ∙ sym (ap (λ (seen : Managed). version_of seen.state seen.state.runner) c.self.view_is)) c.send2.result (g.M.PhysMem.ram c.send2.new.ram) c.send2.new.buffers c.send2.ensures.refusal c.send2.ensures.kept_ram c.send2.ensures.kept c.send2.ensures.ram c.send2.ensures.full c.send2.ensures.receiver w.in-Err.code w.in-Err.is) i) ((ap (λ inside. g.M.PhysMem.past inside.ram) w.self-inside-is ∙ unsent-past w.in-Err.code w.in-Err.is c.send2.ensures.kept_past) i)) ∙ c.self.view_is
       ];
       unowned =
           elim c.match-send2.branch [
@@ -86,8 +87,8 @@ returns g c =
           elim c.match-send2.branch [
             | in-Ok w ↦ subst (λ inside. AreMoments c.args.self.now.state c.args.self.now.ram (g.M.PhysMem.ram inside.ram) c.args.self.now.past (g.M.PhysMem.past inside.ram)) (sym w.self-inside-is)
                 (subst (λ (seen : Managed). AreMoments seen.state seen.ram new seen.past later) c.self.view_is
-                (rx-moments x c.self.invariant _ (receiver-there x c.self.invariant c.runner-runner.result.0 c.runner-runner.ensures.runner c.send2.result (g.M.PhysMem.ram c.send2.new.ram) c.send2.new.buffers c.send2.ensures.refusal c.send2.ensures.kept_ram c.send2.ensures.kept c.send2.ensures.ram c.send2.ensures.full c.send2.ensures.receiver w.in-Ok.receiver w.in-Ok.is) new
-                (tables-kept x c.self.invariant c.runner-runner.result.0 c.runner-runner.ensures.runner c.send2.result (g.M.PhysMem.ram c.send2.new.ram) c.send2.new.buffers c.send2.ensures.refusal c.send2.ensures.kept_ram c.send2.ensures.kept c.send2.ensures.ram c.send2.ensures.full c.send2.ensures.receiver w.in-Ok.receiver w.in-Ok.is) _ later (g.met.M.PhysMem.in_turn c.send2.new.ram) c.send2.ensures.steps))
+                (rx-moments x c.self.invariant _ (receiver-there x c.self.invariant c.runner-runner.result.0 c.runner-runner.ensures.runner c.version-version.result (c.version-version.ensures ∙ sym (ap (λ (seen : Managed). version_of seen.state seen.state.runner) c.self.view_is)) c.send2.result (g.M.PhysMem.ram c.send2.new.ram) c.send2.new.buffers c.send2.ensures.refusal c.send2.ensures.kept_ram c.send2.ensures.kept c.send2.ensures.ram c.send2.ensures.full c.send2.ensures.receiver w.in-Ok.receiver w.in-Ok.is) new
+                (tables-kept x c.self.invariant c.runner-runner.result.0 c.runner-runner.ensures.runner c.version-version.result (c.version-version.ensures ∙ sym (ap (λ (seen : Managed). version_of seen.state seen.state.runner) c.self.view_is)) c.send2.result (g.M.PhysMem.ram c.send2.new.ram) c.send2.new.buffers c.send2.ensures.refusal c.send2.ensures.kept_ram c.send2.ensures.kept c.send2.ensures.ram c.send2.ensures.full c.send2.ensures.receiver w.in-Ok.receiver w.in-Ok.is) _ later (g.met.M.PhysMem.in_turn c.send2.new.ram) c.send2.ensures.steps))
             | in-Err w ↦ subst (λ inside. AreMoments c.args.self.now.state c.args.self.now.ram (g.M.PhysMem.ram inside.ram) c.args.self.now.past (g.M.PhysMem.past inside.ram)) (sym w.self-inside-is)
                 (subst (λ (seen : Managed). AreMoments seen.state seen.ram new seen.past later) c.self.view_is
                 (still-moments (state_of x) x.ram new _ later (unsent-past w.in-Err.code w.in-Err.is c.send2.ensures.kept_ram) (unsent-past w.in-Err.code w.in-Err.is c.send2.ensures.kept_past)))

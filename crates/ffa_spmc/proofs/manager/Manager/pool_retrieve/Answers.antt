@@ -27,7 +27,7 @@ retrieve-requires-clause-caller g c =
 pub invariant_of-self : goal.invariant_of-self
 invariant_of-self g c =
     let x = parts_of g.M.PhysMem.ram c.self.inside in
-    let its : DescriptorCall = record { transfer = c.args.transfer; version = c.version-version.result } in
+    let its : DescriptorCall = record { transfer = c.args.transfer; ffa = x.manifest.ffa; version = c.version-version.result } in
     (retrieve-machine x c.self.invariant c.runner-runner.result c.runner-runner.ensures.runner its (c.version-version.ensures ∙ sym (ap (λ (seen : Managed). version_of seen.state seen.state.runner) c.self.view_is))
     (g.M.PhysMem.ram c.retrieve.new.ram) c.retrieve.new.pages c.retrieve.new.self c.retrieve.new.buffers
     c.retrieve.result c.retrieve.new.news c.retrieve.ensures.refusal c.retrieve.ensures.kept c.retrieve.ensures.kept_pages c.retrieve.ensures.kept_buffers c.retrieve.ensures.kept_ram
@@ -36,7 +36,7 @@ invariant_of-self g c =
 pub returns-clause-done : goal.returns-clause-done
 returns-clause-done g c =
     let x = parts_of g.M.PhysMem.ram c.self.inside in
-    let its : DescriptorCall = record { transfer = c.args.transfer; version = c.version-version.result } in
+    let its : DescriptorCall = record { transfer = c.args.transfer; ffa = x.manifest.ffa; version = c.version-version.result } in
     let apart = rx-apart x c.self.invariant c.runner-runner.result.0 (runner-there x c.self.invariant c.runner-runner.result.0 c.runner-runner.ensures.runner) in
     let y : Parts = record x { ram = g.M.PhysMem.ram c.retrieve.new.ram; kept = record x.kept { pages = c.retrieve.new.pages; pool = c.retrieve.new.self; buffers = c.retrieve.new.buffers } } in
     (told-with x y c.args.self.now c.self.view_is (λ (s : State). memory_retrieve s c.args.transfer) c.retrieve.result c.retrieve.new.news

@@ -7,4 +7,4 @@ use Rattle.ffa_spmc.proofs.manager.Manager.version.Goals as goal
 pub returns : goal.returns
 returns g c =
     let x = parts_of g.M.PhysMem.ram c.self.inside in
-    c.form_of.ensures ∙ version-seen x c.args.self.now c.self.view_is c.runner.result.0 c.runner.ensures.runner
+    c.of_endpoint.ensures ∙ version-seen x c.args.self.now c.self.view_is c.runner.result.0 c.runner.ensures.runner

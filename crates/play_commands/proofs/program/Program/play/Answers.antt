@@ -1,15 +1,12 @@
 -- SPDX-License-Identifier: MIT OR Apache-2.0
-use Rattle.std.proofs.Common.{refl, subst, ◌∙◌, option_map}
+use Rattle.std.proofs.Common.{refl, ◌∙◌, option_map}
 use Rattle.std.proofs.lemmas.Result.{err_from_is_err_and}
 use Rattle.std.proofs.KnownBytes.{Keeps-refl}
-use Rattle.ffa_model.specs.declared.manifest.Manifest.{Manifest}
 use Rattle.ffa_manifest.specs.Document.{parts_of}
 use Rattle.play_report.specs.Manifests.{bytes_of}
-use Rattle.play_tasks.specs.Plays.{Plays}
 use Rattle.play_tasks.specs.Purposes.{known}
-use Rattle.play_tasks.specs.Starts.{begun_by}
 use Rattle.play_tasks.proofs.Plays.{passed}
-use Rattle.play_commands.specs.Performed.{first_of, ran}
+use Rattle.play_commands.specs.Performed.{ran}
 use Rattle.play_commands.proofs.Performs.{play_does, unnamed}
 use Rattle.play_commands.proofs.program.Program.play.Goals as goal
 
@@ -25,9 +22,8 @@ returns-clause-does g c =
     let expected = option_map g.R.Read.remaining c.args.files.expected in
     let task = known g.R.Read.remaining c.in_ok-task.task in
     let path = c.in_ok-trace.trace.path in
-    let played = subst (λ (m : Manifest). Plays task path (begun_by c.args.options.machine.processors (first_of (parts_of m))) streams c.play.result) c.with_ffa-manifest.ensures c.play.ensures.played in
     rw c.in_ok-trace.ensures.opened
-    (play_does c.args.options (bytes_of c.args.files.manifest) expected streams (parts_of c.in_ok-manifest.manifest) c.in_ok-manifest.ensures.described task c.in_ok-task.ensures.serves path c.play.result played)
+    (play_does c.args.options (bytes_of c.args.files.manifest) expected streams (parts_of c.in_ok-manifest.manifest) c.in_ok-manifest.ensures.described task c.in_ok-task.ensures.serves path c.play.result c.play.ensures.played)
 
 pub returns-clause-quiet : goal.returns-clause-quiet
 returns-clause-quiet g c = λ silent. c.play.ensures.quiet (c.in_ok-task.ensures.talks ∙ silent)
