@@ -45,7 +45,7 @@ extern "C" {
 
 /* The number of these declarations, raised by each change that a caller has to know of. Who loads the library while a
  * program runs compares it with gorseplumb_declarations, which answers the number that the library was built by. */
-#define GORSEPLUMB_DECLARATIONS 11
+#define GORSEPLUMB_DECLARATIONS 12
 
 uint32_t gorseplumb_declarations(void);
 
@@ -178,7 +178,8 @@ struct gorseplumb_region {
 
 /* An endpoint of a machine. The first is the normal world, whose UUID is zeros. */
 struct gorseplumb_endpoint {
-    uint32_t version;    /* the form of its descriptors, in FF-A 1.2 at first: 0 is that of FF-A 1.1, 1 the compact one */
+    uint32_t version;    /* the form of its descriptors: 0 is that of FF-A 1.1, 1 the compact one. 2 is that of FF-A 1.2,
+                          * and needs `ffa` 1. With `ffa` 1 an endpoint may change its form by FFA_VERSION */
     uint32_t properties; /* as in a manifest's text: 1 receives direct requests, 2 sends them, 4 indirect messages, 8 notifications */
     uint8_t uuid[16];
     uint32_t region_count; /* of `regions`, from the first on; what stands behind is not read */
@@ -198,7 +199,8 @@ struct gorseplumb_manifest {
     uint32_t endpoint_count; /* of `endpoints`, from the first on; what stands behind is not read */
     struct gorseplumb_endpoint endpoints[GORSEPLUMB_MOST_ENDPOINTS];
     uint32_t ffa; /* an enum gorseplumb_ffa: 0 is FF-A 1.1, and all memory is alike. 1 is FF-A 1.2: memory of the first endpoint's
-                   * regions is non-secure, and all other memory is secure (docs/MEMORY.md). No text says it */
+                   * regions is non-secure, and all other memory is secure (docs/MEMORY.md). No text says it: a text that is
+                   * booted or read is one of FF-A 1.1, so no endpoint has version 2 there */
     uint32_t tables; /* the first page of the endpoints' tables, counted from RAM's first, which is 0: they are in a row from there, 2 +
                       * ram_blocks pages for each endpoint, and regions may lie before them and behind; no text says it */
 };
@@ -222,7 +224,7 @@ enum gorseplumb_answer {
     GORSEPLUMB_MANIFEST_REGION_COUNT = 11,   /* not from 1 to 16 */
     GORSEPLUMB_MANIFEST_REGION_OUTSIDE = 12, /* not whole pages in RAM that are none of the tables', or no page */
     GORSEPLUMB_MANIFEST_REGION_OVERLAP = 13, /* has a page of a region before it */
-    GORSEPLUMB_MANIFEST_VERSION = 14,        /* an unknown version */
+    GORSEPLUMB_MANIFEST_VERSION = 14,        /* an unknown version, or that of FF-A 1.2 on a machine of FF-A 1.1 */
 
     GORSEPLUMB_OCCUPIED = 15,   /* what is to be made, or to be filled, is there already */
     GORSEPLUMB_NO_LIST = 16,    /* there is no list */
@@ -251,7 +253,8 @@ enum gorseplumb_answer gorseplumb_boot(struct gorseplumb_machine *machine, const
 /* The same of a manifest as numbers, for which no memory is needed but the machine's own and its RAM. Refused first, in
  * this order: more endpoints than places; then for each endpoint an unknown version, more regions than places, unknown
  * rights; then `ffa` that is neither 0 nor 1 (GORSEPLUMB_MANIFEST_WRONG_KIND). After that come the causes of a text, in
- * the order in which it would be read, with GORSEPLUMB_MANIFEST_TABLES_OUTSIDE behind the count of endpoints. */
+ * the order in which it would be read, with GORSEPLUMB_MANIFEST_TABLES_OUTSIDE behind the count of endpoints. There an
+ * endpoint with version 2 is refused if `ffa` is 0 (GORSEPLUMB_MANIFEST_VERSION). */
 enum gorseplumb_answer gorseplumb_boot_manifest(struct gorseplumb_machine *machine,
                                                 const struct gorseplumb_manifest *manifest);
 
@@ -547,7 +550,7 @@ enum gorseplumb_check {
  * gorseplumb_flaw_name. A retrieve has the conditions HEADER, which it shares with a send, and then its own. */
 enum gorseplumb_flaw {
     GORSEPLUMB_FLAW_HEADER_SHORT = 1, /* the descriptor is shorter than its header */
-    GORSEPLUMB_FLAW_HEADER_ACCESS_SIZE = 2, /* the access descriptor size field is not 16, or not 0 in the compact form */
+    GORSEPLUMB_FLAW_HEADER_ACCESS_SIZE = 2, /* the access descriptor size field is not 16, 32 in FF-A 1.2, or 0 in the compact form */
     GORSEPLUMB_FLAW_HEADER_ARRAY_UNALIGNED = 3, /* the offset of the access descriptors is not a multiple of 16 */
     GORSEPLUMB_FLAW_HEADER_ARRAY_IN_HEADER = 4, /* the access descriptors begin inside the header */
     GORSEPLUMB_FLAW_HEADER_ARRAY_OUTSIDE = 5, /* the access descriptors end outside the descriptor */
@@ -640,7 +643,7 @@ enum gorseplumb_hint_kind {
     GORSEPLUMB_HINT_HELD = 11,                     /* the caller holds the transaction with the right numbers[0] */
     GORSEPLUMB_HINT_ROOM = 12,                     /* the buffer has numbers[0] bytes */
     GORSEPLUMB_HINT_VALUE = 13,                    /* the register must be numbers[0] */
-    GORSEPLUMB_HINT_FORM = 14,                     /* the field must be numbers[1] in the version that the caller numbers[0] uses */
+    GORSEPLUMB_HINT_FORM = 14,                     /* the field must be numbers[1] in the form that the caller numbers[0] uses: 16, 32 in FF-A 1.2, or 0 in the compact form */
     GORSEPLUMB_HINT_WORD = 15,                     /* in the message header, the 4 bytes from the offset numbers[0] on are numbers[1] */
     GORSEPLUMB_HINT_MESSAGE = 16,                  /* the message begins at numbers[0] and has numbers[1] bytes, and the buffer has numbers[2] bytes */
     GORSEPLUMB_HINT_OUTSIDE = 17,                  /* the first page that is not in RAM is at the address numbers[0] */

@@ -105,8 +105,8 @@ static inline void gorseplumb_put_field(struct gorseplumb_text *text, const stru
     bool is_access = flaw >= GORSEPLUMB_FLAW_ACCESS_PERMISSIONS && flaw <= GORSEPLUMB_FLAW_ACCESS_RECEIVER_TWICE;
     bool is_range = flaw >= GORSEPLUMB_FLAW_RANGE_EMPTY && flaw <= GORSEPLUMB_FLAW_RANGE_OVERLAP;
     bool is_byte = reason->size <= 1;
-    /* If the access descriptors end outside the descriptor, only their number is printed: the first four bytes. */
-    uint64_t size = flaw == GORSEPLUMB_FLAW_HEADER_ARRAY_OUTSIDE && reason->size > 4 ? 4 : reason->size;
+    /* If the access descriptors end outside the descriptor, only the first four of eight bytes are printed: their number. */
+    uint64_t size = flaw == GORSEPLUMB_FLAW_HEADER_ARRAY_OUTSIDE && reason->size == 8 ? 4 : reason->size;
     if (is_access || is_range) {
         gorseplumb_put(text, is_access ? "access descriptor " : "range ");
         gorseplumb_put_short(text, reason->index);
@@ -412,6 +412,12 @@ static inline void gorseplumb_put_number_hint(struct gorseplumb_text *text, cons
     }
 }
 
+/* The name of the form whose headers have this size of an access descriptor. */
+static inline const char *gorseplumb_form_name(uint64_t size) {
+    if (size == 0) return "the compact form";
+    return size == 16 ? "version 1.1" : "version 1.2";
+}
+
 /* Puts a hint that compares a descriptor with a transaction or with a version. */
 static inline void gorseplumb_put_descriptor_hint(struct gorseplumb_text *text, const struct gorseplumb_hint *hint) {
     switch (hint->kind) {
@@ -428,7 +434,8 @@ static inline void gorseplumb_put_descriptor_hint(struct gorseplumb_text *text, 
     case GORSEPLUMB_HINT_FORM:
         gorseplumb_put_wanted(text, 8, hint->numbers[1]);
         gorseplumb_put_endpoint(text, ", because ", hint->numbers[0]);
-        gorseplumb_put(text, hint->numbers[1] == 0 ? " uses the compact form" : " uses version 1.1");
+        gorseplumb_put(text, " uses ");
+        gorseplumb_put(text, gorseplumb_form_name(hint->numbers[1]));
         break;
     default:
         break;

@@ -76,9 +76,11 @@ enum gorseplumb_error {
 #define GORSEPLUMB_INDIRECT_MESSAGES 4
 #define GORSEPLUMB_RECEIVES_NOTIFICATIONS 8
 
-/* The form of an endpoint's descriptors: `version` in a struct gorseplumb_endpoint. */
+/* The form of an endpoint's descriptors: `version` in a struct gorseplumb_endpoint. That of FF-A 1.2 has access descriptors of
+ * 32 bytes in place of 16, and needs a machine with `ffa` GORSEPLUMB_FFA_1_2. */
 #define GORSEPLUMB_VERSION_1_1 0
 #define GORSEPLUMB_VERSION_COMPACT 1
+#define GORSEPLUMB_VERSION_1_2 2
 
 /* Identifiers that are the same in each machine (DEN0077A, 6.1): the normal world's, and that of the manager, which is
  * no endpoint. */

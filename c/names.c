@@ -182,7 +182,7 @@ static const char check_names[] =
 
 static const char flaw_names[] =
     "the descriptor is shorter than its header\0"
-    "the access descriptor size field is not 16, or not 0 in the compact form\0"
+    "the access descriptor size field is not 16, 32 in FF-A 1.2, or 0 in the compact form\0"
     "the offset of the access descriptors is not a multiple of 16\0"
     "the access descriptors begin inside the header\0"
     "the access descriptors end outside the descriptor\0"

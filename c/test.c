@@ -362,9 +362,14 @@ static void numbers(void) {
     REFUSED(GORSEPLUMB_OK, manifest.tables = 64);
     REFUSED(GORSEPLUMB_MANIFEST_REGION_OUTSIDE, manifest.tables = 63);
     REFUSED(GORSEPLUMB_MANIFEST_TABLES_OUTSIDE, manifest.tables = 504);
+    /* Of FF-A 1.2 an endpoint is on a machine of FF-A 1.2 alone; there is no other version. */
+    REFUSED(GORSEPLUMB_OK, manifest.endpoints[1].version = 2, manifest.ffa = GORSEPLUMB_FFA_1_2);
     REFUSED(GORSEPLUMB_MANIFEST_VERSION, manifest.endpoints[1].version = 2);
+    REFUSED(GORSEPLUMB_MANIFEST_VERSION, manifest.endpoints[1].version = 3, manifest.ffa = GORSEPLUMB_FFA_1_2);
     /* What tells of no machine at all comes before what makes none. */
-    REFUSED(GORSEPLUMB_MANIFEST_VERSION, manifest.endpoints[1].version = 2, manifest.ram_base = 1);
+    REFUSED(GORSEPLUMB_MANIFEST_VERSION, manifest.endpoints[1].version = 3, manifest.ram_base = 1);
+    REFUSED(GORSEPLUMB_MANIFEST_RAM_BASE, manifest.endpoints[1].version = 2, manifest.ram_base = 1);
+    REFUSED(GORSEPLUMB_MANIFEST_VERSION, manifest.endpoints[1].version = 2, memset(manifest.endpoints[1].uuid, 0, 16));
     REFUSED(GORSEPLUMB_MANIFEST_RAM_BASE, manifest.ram_base = 1, manifest.ram_blocks = 0);
 #undef REFUSED
 }

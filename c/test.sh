@@ -37,7 +37,7 @@ done
 to=$(mktemp -d)
 trap 'rm -rf "$to"' EXIT
 strict="-std=c11 -Wall -Wextra -Wpedantic -Wshadow -Werror -I$here"
-tests="test test_copies test_ffa test_questions test_reasons test_refusals test_runs test_races test_walks test_processors test_worlds test_tables"
+tests="test test_copies test_ffa test_questions test_reasons test_refusals test_runs test_races test_walks test_processors test_worlds test_forms test_tables"
 sanitized="-O1 -g -fsanitize=address,undefined -fno-sanitize-recover=all"
 deep=${UNPROVED:+-DGORSEPLUMB_STACK_BYTES=0x80000} # what tests/all compiled without proofs tests more, and takes more stack
 renamed="-Dmemcpy=copy_bytes -Dmemmove=move_bytes -Dmemset=set_bytes" # bytes.c beside a C library, which has these

@@ -55,7 +55,7 @@ static void texts(void) {
     refuses("ram_base = 1", GORSEPLUMB_MANIFEST_RAM_BASE, none, 0, 0, 0, "ram_base = 00000001 (decimal 1): must be a multiple of 04000000");
     refuses("ram_base = 0x40000000\n" REST "endpoint = []", GORSEPLUMB_MANIFEST_ENDPOINT_COUNT, none, 0, 0, 0, "endpoint has 0 members");
     refuses("ram_base = 0x40000000\n" REST "[[endpoint]]\nversion = \"1.2\"", GORSEPLUMB_MANIFEST_VERSION, 0, 0, 0, 0,
-            "endpoint 0000 (the 1st [[endpoint]]): version = \"1.2\": ");
+            "endpoint 0000 (the 1st [[endpoint]]): version = \"1.2\": must be \"1.1\" or \"compact\"; \"1.2\" needs a machine of FF-A 1.2");
     refuses("ram_base = 0x40000000\n" REST WORLD PARTITION "regions = [" OWN ", { base = 0x40020000, pages = 1 }]",
             GORSEPLUMB_MANIFEST_MISSING_KEY, 0x8001, 2, 0, 0, "endpoint 8001 (the 2nd [[endpoint]]), region 2: missing key 'rights'");
     refuses("ram_base = 0x40000000\n" REST WORLD PARTITION "regions = [" OWN ", " OWN "]", GORSEPLUMB_MANIFEST_REGION_OVERLAP, 0x8001, 2, 0, 0,
@@ -120,6 +120,10 @@ static void numbers(void) {
     refuses_numbers(&it, GORSEPLUMB_MANIFEST_PROPERTY, 0x8001, 0);
     it.endpoints[1].uuid[0] = 0;
     refuses_numbers(&it, GORSEPLUMB_MANIFEST_UUID, 0x8001, 0);
+    it.endpoints[1].version = 2;
+    refuses_numbers(&it, GORSEPLUMB_MANIFEST_VERSION, 0x8001, 0);
+    it.ffa = GORSEPLUMB_FFA_1_2;
+    refuses_numbers(&it, GORSEPLUMB_MANIFEST_UUID, 0x8001, 0);
     it.endpoints[0].region_count = 0;
     refuses_numbers(&it, GORSEPLUMB_MANIFEST_REGION_COUNT, 0, 0);
     it.ram_blocks = 0;
@@ -132,7 +136,7 @@ static void numbers(void) {
     refuses_numbers(&it, GORSEPLUMB_MANIFEST_WRONG_KIND, 0x8002, 2);
     it.endpoints[2].region_count = 17;
     refuses_numbers(&it, GORSEPLUMB_MANIFEST_REGION_COUNT, 0x8002, 0);
-    it.endpoints[2].version = 2;
+    it.endpoints[2].version = 3;
     refuses_numbers(&it, GORSEPLUMB_MANIFEST_VERSION, 0x8002, 0);
     it.endpoint_count = 9;
     refuses_numbers(&it, GORSEPLUMB_MANIFEST_ENDPOINT_COUNT, GORSEPLUMB_NOTHING, 0);

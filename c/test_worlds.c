@@ -147,14 +147,17 @@ static void serves_no_other(void) {
     manifest.ram_blocks = 0;
     CHECK(gorseplumb_boot_manifest(&machine, &manifest) == GORSEPLUMB_MANIFEST_WRONG_KIND);
     manifest.endpoints[1].version = 2;
+    CHECK(gorseplumb_boot_manifest(&machine, &manifest) == GORSEPLUMB_MANIFEST_WRONG_KIND);
+    manifest.endpoints[1].version = 3;
     CHECK(gorseplumb_boot_manifest(&machine, &manifest) == GORSEPLUMB_MANIFEST_VERSION);
 }
 
-/* The normal world asks for 1.0, and then for 1.1 while it has buffers. If the form of 1.0 is kept, it is told no size of the information. */
-static void versions(uint32_t ffa, uint64_t size, uint64_t again) {
+/* The normal world asks for 1.0, and then for 1.1 while it has buffers. It is told the machine's version. If the form of 1.0 is kept, it is
+ * told no size of the information. */
+static void versions(uint32_t ffa, uint64_t served, uint64_t size, uint64_t again) {
     struct gorseplumb_manifest manifest = two_partitions(ffa);
     CHECK(gorseplumb_boot_manifest(&machine, &manifest) == GORSEPLUMB_OK);
-    CHECK(CALL(GORSEPLUMB_FFA_VERSION, 0x10000).x[0] == 0x10001);
+    CHECK(CALL(GORSEPLUMB_FFA_VERSION, 0x10000).x[0] == served);
     maps(0);
     struct gorseplumb_outcome told = CALL(GORSEPLUMB_FFA_PARTITION_INFO_GET);
     CHECK(gorseplumb_function_of(told) == GORSEPLUMB_FFA_SUCCESS && told.x[2] == 2 && told.x[3] == size);
@@ -166,8 +169,8 @@ int main(void) {
     serves_1_2();
     serves_1_1();
     serves_no_other();
-    versions(GORSEPLUMB_FFA_1_2, 0, 0xFFFFFFFF);
-    versions(GORSEPLUMB_FFA_1_1, 24, 0x10001);
+    versions(GORSEPLUMB_FFA_1_2, 0x10002, 0, 0xFFFFFFFF);
+    versions(GORSEPLUMB_FFA_1_1, 0x10001, 24, 0x10001);
     puts("ok");
     return 0;
 }

@@ -112,7 +112,7 @@ class Flaw(_Worded):
     """A condition of a descriptor that its bytes break. The first word of its name is the part of the descriptor."""
 
     HEADER_SHORT = 1, "the descriptor is shorter than its header"
-    HEADER_ACCESS_SIZE = 2, "the access descriptor size field is not 16, or not 0 in the compact form"
+    HEADER_ACCESS_SIZE = 2, "the access descriptor size field is not 16, 32 in FF-A 1.2, or 0 in the compact form"
     HEADER_ARRAY_UNALIGNED = 3, "the offset of the access descriptors is not a multiple of 16"
     HEADER_ARRAY_IN_HEADER = 4, "the access descriptors begin inside the header"
     HEADER_ARRAY_OUTSIDE = 5, "the access descriptors end outside the descriptor"

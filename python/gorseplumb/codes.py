@@ -185,20 +185,24 @@ class Properties(IntFlag):
 
 
 class Form(Named):
-    """The form of an endpoint's descriptors: that of FF-A 1.1, or this project's compact one."""
+    """The form of an endpoint's descriptors: that of FF-A 1.1, this project's compact one, or that of FF-A 1.2, whose access
+    descriptors have 32 bytes. Only a machine that serves `Ffa.V1_2` has an endpoint of the last one. There an endpoint
+    changes its form by FFA_VERSION: minor version 0 is the compact form, 1 that of FF-A 1.1, and each greater one that
+    of FF-A 1.2."""
 
     FFA_1_1 = 0
     COMPACT = 1
+    FFA_1_2 = 2
 
     @property
     def text(self) -> str:
         """What a manifest has as `version`."""
-        return "1.1" if self is Form.FFA_1_1 else "compact"
+        return {Form.FFA_1_1: "1.1", Form.COMPACT: "compact", Form.FFA_1_2: "1.2"}[self]
 
 
 class Ffa(Named):
     """The version of FF-A that a machine serves, from its boot on. One that serves 1.2 tells memory of the normal world's
-    regions, which is non-secure, from all other, which is secure."""
+    regions, which is non-secure, from all other, which is secure. Its endpoints may have `Form.FFA_1_2`."""
 
     V1_1 = 0
     V1_2 = 1

@@ -7,7 +7,7 @@ from dataclasses import dataclass
 from typing import Iterator, NamedTuple, Sequence
 
 from .checks import Flaw
-from .codes import PAGE_SIZE, Form, Function, Kind
+from .codes import PAGE_SIZE, Ffa, Form, Function, Kind
 from .errors import MalformedDescriptor
 from .hexadecimal import Named, by_fields, shown
 from .misuse import check_each, check_member, check_member_or_number, check_numbers, refuse
@@ -18,11 +18,11 @@ NON_SECURE = 1 << 6
 MOST_RECEIVERS = 4
 MOST_RANGES = 64
 ENTRY_SIZE = 16
-"""The size of an access descriptor, of a composite without its ranges, and of a range."""
+"""The size of a composite without its ranges, and of a range."""
 
 _HEADER = struct.Struct("<HHIQQII")
 _REST = struct.Struct("<IIQ")
-_ACCESS = struct.Struct("<HBBIQ")
+_ACCESS = struct.Struct("<HBBI")
 _COMPOSITE = struct.Struct("<IIQ")
 _RANGE = struct.Struct("<QII")
 _RELINQUISH = struct.Struct("<QIIH")
@@ -104,12 +104,11 @@ class Offer:
 
     def to_bytes(self, form: Form = Form.FFA_1_1, *, checked: bool = True) -> bytes:
         """The descriptor. Where the machine would find it malformed, that is raised, unless it isn't to be checked."""
-        size = header_size(form)
-        composite = size + ENTRY_SIZE * len(self.receivers)
+        composite = header_size(form) + access_size(form) * len(self.receivers)
         attributes = _attributes(self.kind, len(self.receivers))
         data = (
             _pack_header(form, self.sender, attributes, int(self.zero), 0, self.tag, len(self.receivers))
-            + b"".join(_pack(_ACCESS, it.endpoint, it.permissions, 0, composite, 0) for it in self.receivers)
+            + b"".join(_pack_access(form, it, composite) for it in self.receivers)
             + _pack_composite(self.ranges)
         )
         if checked:
@@ -117,11 +116,14 @@ class Offer:
         return data
 
     @classmethod
-    def from_bytes(cls, data: bytes, kind: Kind, form: Form = Form.FFA_1_1) -> Offer:
-        """What a descriptor of this kind says."""
+    def from_bytes(cls, data: bytes, kind: Kind, form: Form = Form.FFA_1_1, ffa: Ffa | None = None) -> Offer:
+        """What a descriptor of this kind says to a machine that serves this version of FF-A. The default is `Ffa.V1_2` with
+        `Form.FFA_1_2`, and else `Ffa.V1_1`. A machine of FF-A 1.2 lets each lend leave the memory attributes to its
+        receivers, and flags name the kind, in each form."""
         check_member("kind", kind, Kind)
         header = _read_header(data, form)
-        _check_send(kind, header)
+        served = _served(form, ffa)
+        flags = _check_send(served, kind, header)
         composite = _u32(data, header.array + 4)
         receivers: list[Receiver] = []
         for index in range(header.entries):
@@ -131,7 +133,7 @@ class Offer:
         for index in range(count):
             ranges.append(_read_range(data, composite + ENTRY_SIZE * (1 + index), index, ranges))
         _require(sum(it.pages for it in ranges) == _u32(data, composite), Flaw.COMPOSITE_TOTAL)
-        return cls(kind, header.sender, tuple(receivers), tuple(ranges), header.flags == 1, header.tag)
+        return cls(kind, header.sender, tuple(receivers), tuple(ranges), flags == 1, header.tag)
 
     def operations(self, tx: int, form: Form = Form.FFA_1_1, *, checked: bool = True) -> list[Operation]:
         """The stores that write it to TX, and its call."""
@@ -159,9 +161,7 @@ class Retrieve:
     def to_bytes(self, form: Form = Form.FFA_1_1, *, checked: bool = True) -> bytes:
         """The descriptor, checked as that of an offer is."""
         flags = (self.kind or 0) << 3
-        data = _pack_header(form, self.sender, 0, flags, self.handle, self.tag, 1) + _pack(
-            _ACCESS, self.receiver.endpoint, self.receiver.permissions, 0, 0, 0
-        )
+        data = _pack_header(form, self.sender, 0, flags, self.handle, self.tag, 1) + _pack_access(form, self.receiver, 0)
         if checked:
             Retrieve.from_bytes(data, self.receiver.endpoint, form)
         return data
@@ -173,16 +173,16 @@ class Retrieve:
         _require(header.attributes in (0, NORMAL_MEMORY), Flaw.RETRIEVE_ATTRIBUTES)
         _require(header.flags & ~0x18 == 0, Flaw.RETRIEVE_FLAGS)
         _require(header.entries == 1, Flaw.RETRIEVE_ACCESS_COUNT)
-        named, permissions, flags, composite, reserved = _ACCESS.unpack_from(data, header.array)
-        _require(named == endpoint, Flaw.RETRIEVE_RECEIVER_IS_ANOTHER)
-        _require(permissions & 3 != 3, Flaw.RETRIEVE_DATA_PERMISSION)
-        _require(permissions >> 2 & 3 != 3, Flaw.RETRIEVE_INSTRUCTION_PERMISSION)
-        _require(permissions >> 4 == 0, Flaw.RETRIEVE_PERMISSIONS_RESERVED)
-        _require(flags == 0, Flaw.RETRIEVE_ACCESS_FLAGS)
-        _require(composite == 0, Flaw.RETRIEVE_COMPOSITE_TOLD)
-        _require(reserved == 0, Flaw.RETRIEVE_ACCESS_RESERVED)
+        access = _read_access(data, header)
+        _require(access.endpoint == endpoint, Flaw.RETRIEVE_RECEIVER_IS_ANOTHER)
+        _require(access.permissions & 3 != 3, Flaw.RETRIEVE_DATA_PERMISSION)
+        _require(access.permissions >> 2 & 3 != 3, Flaw.RETRIEVE_INSTRUCTION_PERMISSION)
+        _require(access.permissions >> 4 == 0, Flaw.RETRIEVE_PERMISSIONS_RESERVED)
+        _require(access.flags == 0, Flaw.RETRIEVE_ACCESS_FLAGS)
+        _require(access.composite == 0, Flaw.RETRIEVE_COMPOSITE_TOLD)
+        _require(access.is_rest_zero, Flaw.RETRIEVE_ACCESS_RESERVED)
         kind = Kind(header.flags >> 3) if header.flags else None
-        return cls(header.sender, header.handle, _receiver(named, permissions), header.tag, kind)
+        return cls(header.sender, header.handle, access.receiver, header.tag, kind)
 
     def operations(self, tx: int, form: Form = Form.FFA_1_1, *, checked: bool = True) -> list[Operation]:
         """The stores that write it to TX, and its call."""
@@ -192,7 +192,7 @@ class Retrieve:
 @dataclass(frozen=True, slots=True)
 class RetrieveResponse:
     """What FFA_MEM_RETRIEVE_RESP leaves in RX: `receiver` has the right that it holds from now on. Only of a machine that
-    serves FF-A 1.2 are pages told to be `non_secure`."""
+    serves FF-A 1.2 are pages told to be `non_secure`, and not in the compact form."""
 
     kind: Kind
     sender: int
@@ -213,12 +213,12 @@ class RetrieveResponse:
 
     def to_bytes(self, form: Form = Form.FFA_1_1) -> bytes:
         """The response, as the machine writes it."""
-        composite = header_size(form) + ENTRY_SIZE
-        attributes = NORMAL_MEMORY | (NON_SECURE if self.non_secure else 0)
+        composite = header_size(form) + access_size(form)
+        attributes = NORMAL_MEMORY | (NON_SECURE if self.non_secure and form is not Form.COMPACT else 0)
         flags = self.kind << 3 | int(self.zeroed)
         return (
             _pack_header(form, self.sender, attributes, flags, self.handle, self.tag, 1)
-            + _pack(_ACCESS, self.receiver.endpoint, self.receiver.permissions, 0, composite, 0)
+            + _pack_access(form, self.receiver, composite)
             + _pack_composite(self.ranges)
         )
 
@@ -227,18 +227,18 @@ class RetrieveResponse:
         """What the bytes of RX say, of which those behind the response may be anything."""
         header = _read_header(data, form)
         _require(header.entries == 1, Flaw.RETRIEVE_ACCESS_COUNT)
-        named, permissions, _, composite, _ = _ACCESS.unpack_from(data, header.array)
-        _require(permissions & 3 != 3, Flaw.RETRIEVE_DATA_PERMISSION)
-        _require(permissions >> 2 & 3 != 3, Flaw.RETRIEVE_INSTRUCTION_PERMISSION)
+        access = _read_access(data, header)
+        _require(access.permissions & 3 != 3, Flaw.RETRIEVE_DATA_PERMISSION)
+        _require(access.permissions >> 2 & 3 != 3, Flaw.RETRIEVE_INSTRUCTION_PERMISSION)
         _require(header.flags >> 3 & 3 != 0, Flaw.RETRIEVE_FLAGS)
-        count = _read_range_count(data, header, composite)
+        count = _read_range_count(data, header, access.composite)
         ranges = tuple(
-            PageRange(*_RANGE.unpack_from(data, composite + ENTRY_SIZE * (1 + index))[:2]) for index in range(count)
+            PageRange(*_RANGE.unpack_from(data, access.composite + ENTRY_SIZE * (1 + index))[:2])
+            for index in range(count)
         )
-        kind = Kind(header.flags >> 3 & 3)
-        receiver, zeroed = _receiver(named, permissions), bool(header.flags & 1)
-        non_secure = bool(header.attributes & NON_SECURE)
-        return cls(kind, header.sender, header.handle, receiver, ranges, zeroed, header.tag, non_secure)
+        kind, zeroed = Kind(header.flags >> 3 & 3), bool(header.flags & 1)
+        non_secure = form is not Form.COMPACT and bool(header.attributes & NON_SECURE)
+        return cls(kind, header.sender, header.handle, access.receiver, ranges, zeroed, header.tag, non_secure)
 
 
 @dataclass(frozen=True, slots=True)
@@ -275,7 +275,13 @@ class Relinquish:
 def header_size(form: Form) -> int:
     """How many bytes a transaction header has."""
     check_member("form", form, Form)
-    return 48 if form is Form.FFA_1_1 else 32
+    return 32 if form is Form.COMPACT else 48
+
+
+def access_size(form: Form) -> int:
+    """How many bytes an access descriptor has."""
+    check_member("form", form, Form)
+    return 32 if form is Form.FFA_1_2 else 16
 
 
 def stores(address: int, data: bytes) -> Iterator[Store]:
@@ -303,6 +309,26 @@ class _Header(NamedTuple):
     tag: int
     entries: int
     array: int
+    entry_size: int
+
+    @property
+    def end(self) -> int:
+        """Where the access descriptors end."""
+        return self.array + self.entry_size * self.entries
+
+
+class _Access(NamedTuple):
+    endpoint: int
+    permissions: int
+    flags: int
+    composite: int
+    is_rest_zero: bool
+
+    @property
+    def receiver(self) -> Receiver:
+        """What it says, where its permissions were checked."""
+        data, instructions = DataAccess(self.permissions & 3), InstructionAccess(self.permissions >> 2 & 3)
+        return Receiver(self.endpoint, data, instructions)
 
 
 def _require(holds: bool, flaw: Flaw, index: int = 0) -> None:
@@ -318,10 +344,18 @@ def _pack(form: struct.Struct, *fields: int) -> bytes:
 
 
 def _pack_header(form: Form, sender: int, attributes: int, flags: int, handle: int, tag: int, count: int) -> bytes:
-    size = header_size(form)
-    told = ENTRY_SIZE if form is Form.FFA_1_1 else 0
-    front = _pack(_HEADER, sender, attributes, flags, handle, tag, told, count)
-    return front + (_pack(_REST, size, 0, 0) if form is Form.FFA_1_1 else b"")
+    front = _pack(_HEADER, sender, attributes, flags, handle, tag, _told_size(form), count)
+    return front + (_pack(_REST, header_size(form), 0, 0) if form is not Form.COMPACT else b"")
+
+
+def _told_size(form: Form) -> int:
+    """What a header says of the size of an access descriptor."""
+    return 0 if form is Form.COMPACT else access_size(form)
+
+
+def _pack_access(form: Form, receiver: Receiver, composite: int) -> bytes:
+    front = _pack(_ACCESS, receiver.endpoint, receiver.permissions, 0, composite)
+    return front.ljust(access_size(form), b"\0")
 
 
 def _pack_composite(ranges: Sequence[PageRange]) -> bytes:
@@ -337,10 +371,6 @@ def _u32(data: bytes, at: int) -> int:
     return int.from_bytes(data[at : at + 4], "little")
 
 
-def _receiver(endpoint: int, permissions: int) -> Receiver:
-    return Receiver(endpoint, DataAccess(permissions & 3), InstructionAccess(permissions >> 2 & 3))
-
-
 def _attributes(kind: Kind, receivers: int) -> int:
     is_left_open = kind is Kind.DONATE or kind is Kind.LEND and receivers == 1
     return 0 if is_left_open else NORMAL_MEMORY
@@ -350,41 +380,64 @@ def _read_header(data: bytes, form: Form) -> _Header:
     size = header_size(form)
     _require(len(data) >= size, Flaw.HEADER_SHORT)
     sender, attributes, flags, handle, tag, told, count = _HEADER.unpack_from(data)
-    array, low, high = _REST.unpack_from(data, _HEADER.size) if form is Form.FFA_1_1 else (size, 0, 0)
-    _require(told == (ENTRY_SIZE if form is Form.FFA_1_1 else 0), Flaw.HEADER_ACCESS_SIZE)
+    array, low, high = _REST.unpack_from(data, _HEADER.size) if form is not Form.COMPACT else (size, 0, 0)
+    header = _Header(sender, attributes, flags, handle, tag, count, array, access_size(form))
+    _require(told == _told_size(form), Flaw.HEADER_ACCESS_SIZE)
     _require(array % 16 == 0, Flaw.HEADER_ARRAY_UNALIGNED)
     _require(array >= size, Flaw.HEADER_ARRAY_IN_HEADER)
-    _require(array + ENTRY_SIZE * count <= len(data), Flaw.HEADER_ARRAY_OUTSIDE)
+    _require(header.end <= len(data), Flaw.HEADER_ARRAY_OUTSIDE)
     _require(low == high == 0, Flaw.HEADER_RESERVED)
-    return _Header(sender, attributes, flags, handle, tag, count, array)
+    return header
 
 
-def _check_send(kind: Kind, header: _Header) -> None:
-    _require(header.attributes == _attributes(kind, header.entries), Flaw.SEND_ATTRIBUTES)
-    _require(header.flags <= (0 if kind is Kind.SHARE else 1), Flaw.SEND_FLAGS)
+def _read_access(data: bytes, header: _Header, index: int = 0) -> _Access:
+    at = header.array + header.entry_size * index
+    endpoint, permissions, flags, composite = _ACCESS.unpack_from(data, at)
+    is_rest_zero = not any(data[at + _ACCESS.size : at + header.entry_size])
+    return _Access(endpoint, permissions, flags, composite, is_rest_zero)
+
+
+def _served(form: Form, ffa: Ffa | None) -> Ffa:
+    """The version of FF-A of the machine that reads a descriptor of this form."""
+    if ffa is None:
+        return Ffa.V1_2 if form is Form.FFA_1_2 else Ffa.V1_1
+    check_member("ffa", ffa, Ffa)
+    if form is Form.FFA_1_2 and ffa is Ffa.V1_1:
+        raise ValueError("a machine of Ffa.V1_1 has no endpoint of Form.FFA_1_2: give Ffa.V1_2")
+    return ffa
+
+
+def _check_send(ffa: Ffa, kind: Kind, header: _Header) -> int:
+    """The flags of an offer, without its own kind where the machine lets them name that."""
+    is_left_or_said = ffa is Ffa.V1_2 and kind is Kind.LEND and header.attributes in (0, NORMAL_MEMORY)
+    _require(is_left_or_said or header.attributes == _attributes(kind, header.entries), Flaw.SEND_ATTRIBUTES)
+    names_kind = ffa is Ffa.V1_2 and header.flags >> 3 & 3 == kind
+    flags = header.flags - (kind << 3) if names_kind else header.flags
+    _require(flags <= (0 if kind is Kind.SHARE else 1), Flaw.SEND_FLAGS)
     _require(header.handle == 0, Flaw.SEND_HANDLE)
     _require(header.entries >= 1, Flaw.SEND_NO_RECEIVER)
     _require(header.entries <= (1 if kind is Kind.DONATE else MOST_RECEIVERS), Flaw.SEND_MANY_RECEIVERS)
+    return flags
 
 
 def _read_receiver(
     data: bytes, kind: Kind, header: _Header, composite: int, index: int, earlier: Sequence[Receiver]
 ) -> Receiver:
-    endpoint, permissions, flags, told, reserved = _ACCESS.unpack_from(data, header.array + ENTRY_SIZE * index)
-    _require(permissions in ((0,) if kind is Kind.DONATE else (1, 2)), Flaw.ACCESS_PERMISSIONS, index)
-    _require(flags == 0, Flaw.ACCESS_FLAGS, index)
-    _require(told == composite, Flaw.ACCESS_OTHER_COMPOSITE, index)
-    _require(reserved == 0, Flaw.ACCESS_RESERVED, index)
-    _require(endpoint != header.sender, Flaw.ACCESS_RECEIVER_IS_SENDER, index)
-    _require(all(endpoint != it.endpoint for it in earlier), Flaw.ACCESS_RECEIVER_TWICE, index)
-    return _receiver(endpoint, permissions)
+    access = _read_access(data, header, index)
+    _require(access.permissions in ((0,) if kind is Kind.DONATE else (1, 2)), Flaw.ACCESS_PERMISSIONS, index)
+    _require(access.flags == 0, Flaw.ACCESS_FLAGS, index)
+    _require(access.composite == composite, Flaw.ACCESS_OTHER_COMPOSITE, index)
+    _require(access.is_rest_zero, Flaw.ACCESS_RESERVED, index)
+    _require(access.endpoint != header.sender, Flaw.ACCESS_RECEIVER_IS_SENDER, index)
+    _require(all(access.endpoint != it.endpoint for it in earlier), Flaw.ACCESS_RECEIVER_TWICE, index)
+    return access.receiver
 
 
 def _read_range_count(data: bytes, header: _Header, composite: int) -> int:
     first = composite + ENTRY_SIZE
     _require(first <= len(data), Flaw.COMPOSITE_OUTSIDE)
     _require(composite % 16 == 0, Flaw.COMPOSITE_UNALIGNED)
-    _require(header.array + ENTRY_SIZE * header.entries <= composite, Flaw.COMPOSITE_IN_ARRAY)
+    _require(header.end <= composite, Flaw.COMPOSITE_IN_ARRAY)
     _, count, reserved = _COMPOSITE.unpack_from(data, composite)
     _require(count >= 1, Flaw.COMPOSITE_NO_RANGE)
     _require(count <= MOST_RANGES, Flaw.COMPOSITE_MANY_RANGES)

@@ -102,8 +102,9 @@ def _room_text(it: Hint) -> str:
 
 
 def _form_text(it: Hint) -> str:
-    size, used = (0, "the compact form") if it.form is Form.COMPACT else (16, "version 1.1")
-    return f", and must be {size:08X}, because {it.endpoint:04X} uses {used}"
+    form = it.form or Form.FFA_1_1
+    used = "the compact form" if form is Form.COMPACT else f"version {form.text}"
+    return f", and must be {_SIZES[form]:08X}, because {it.endpoint:04X} uses {used}"
 
 
 def _word_text(place: int, value: int) -> str:
@@ -116,9 +117,13 @@ def _kind(number: int) -> Kind:
     return Kind(number + 1)
 
 
+_SIZES = {Form.COMPACT: 0, Form.FFA_1_1: 16, Form.FFA_1_2: 32}
+"""The size of an access descriptor, as the header of each form has it."""
+
+
 def _form(size: int) -> Form:
     """The form that has this size of an access descriptor in its header."""
-    return Form.FFA_1_1 if size else Form.COMPACT
+    return next(form for form, told in _SIZES.items() if told == size)
 
 
 _ENDPOINT = (("endpoint", int),)

@@ -17,7 +17,7 @@ from .errors import LibraryError, access_fault, call_refused
 from .hexadecimal import shown
 from .manifest import Manifest, checked_boot, text_of
 from .messages import IndirectMessage
-from .misuse import check_number, refuse
+from .misuse import check_member, check_number, refuse
 from .outcomes import DONE, FAULTED, INTERRUPT, KINDS, SIZES
 from .outcomes import Act, Call, Data, Done, Faulted, Fetch, Interrupt, Load, Operation, Outcome, Registers, Resumed
 from .outcomes import Store
@@ -157,7 +157,7 @@ class Machine(Questions):
         return self._values
 
     def form(self, endpoint: int) -> Form:
-        """The form of an endpoint's descriptors."""
+        """The form of an endpoint's descriptors by the manifest. On a machine of FF-A 1.2 FFA_VERSION changes it."""
         self._check_endpoint(endpoint)
         return self.manifest.endpoints[self._endpoints.index(endpoint)].form
 
@@ -329,13 +329,18 @@ class Machine(Questions):
             raise call_refused(code, call.x[0], caller, self.why(call))
         return answer
 
-    def send(self, request: Offer | Retrieve | Relinquish | IndirectMessage, tx: int) -> Registers:
+    def send(
+        self, request: Offer | Retrieve | Relinquish | IndirectMessage, tx: int, form: Form | None = None
+    ) -> Registers:
         """Writes a descriptor or a message to TX of the runner, in its form, and makes its call. Where a store or the
-        call is refused, that is raised."""
+        call is refused, that is raised. The form is that of the manifest; give another one if the runner has asked for it
+        by FFA_VERSION."""
         if not hasattr(request, "operations"):
             refuse("a request", "an Offer, a Retrieve, a Relinquish or an IndirectMessage", request)
         check_number("tx", tx)
-        for operation in request.operations(tx, self.form(self.runner)):
+        if form is not None:
+            check_member("form", form, Form)
+        for operation in request.operations(tx, self.form(self.runner) if form is None else form):
             if isinstance(operation, Call):
                 answer = self.require(operation)
             elif isinstance(operation, Store):

@@ -14,7 +14,7 @@ from ._library import library
 from .codes import MANAGER, NORMAL_WORLD, Answer, Cause, Ffa, Form, Properties, Right
 from .errors import LibraryError, ManifestRefused, OutOfMemory, WrongRamSize
 from .hexadecimal import by_fields
-from .misuse import check_each, check_member_or_number, check_number, check_numbers, file_hint, refuse
+from .misuse import check_each, check_member_or_number, check_number, check_numbers, check_uuid, file_hint, refuse
 
 _NIL = uuids.UUID(int=0)
 _RIGHTS = {Right.RO: "ro", Right.RW: "rw", Right.ROX: "rox", Right.RWX: "rwx"}
@@ -37,7 +37,8 @@ class Region:
 
 @dataclass(frozen=True)
 class Endpoint:
-    """An endpoint. The first of a manifest is the normal world, which has no UUID."""
+    """An endpoint. The first of a manifest is the normal world, which has no UUID. `Form.FFA_1_2` needs a manifest with
+    `Ffa.V1_2`."""
 
     regions: Sequence[Region]
     properties: Properties = Properties(0)
@@ -50,8 +51,7 @@ class Endpoint:
         check_each("regions", self.regions, Region)
         check_member_or_number("properties", self.properties, Properties)
         check_member_or_number("form", self.form, Form)
-        if self.uuid is not None and not isinstance(self.uuid, uuids.UUID):
-            refuse("uuid", "a UUID", self.uuid, f"UUID({self.uuid!r})" if isinstance(self.uuid, str) else None)
+        check_uuid(self.uuid)
 
 
 @dataclass(frozen=True)
@@ -84,7 +84,8 @@ class Manifest:
         return cls(raw.ram_base, raw.ram_blocks, endpoints, Ffa(raw.ffa), raw.tables)
 
     def text(self) -> str:
-        """The same as the text of a manifest, but for `ffa` and `tables`."""
+        """The same as the text of a manifest, but for `ffa` and `tables`. A text with `Form.FFA_1_2` is one for the program
+        with `--ffa 1.2`: `read` refuses it, as it does each text that is none of a machine of FF-A 1.1."""
         lines = [f"ram_base = 0x{self.ram_base:08X}", f"ram_blocks = {self.ram_blocks}"]
         for endpoint in self.endpoints:
             lines += ["", "[[endpoint]]", f'version = "{endpoint.form.text}"']
@@ -137,7 +138,7 @@ def checked_boot(answer: int, given: object = None, told: object = None) -> None
         cause = Cause(answer)
     except ValueError:
         raise LibraryError(f"a boot answers {answer}") from None
-    raise _refused(cause, _hint(given), told)
+    raise _refused(cause, _hint(given, cause), told)
 
 
 _WORDS = 1024
@@ -164,9 +165,14 @@ def _refused(cause: Cause, hint: str, told: object) -> ManifestRefused:
     )
 
 
-def _hint(given: object) -> str:
-    """What is said of a str that is the name of a file, or may be meant for one: it has one line, and nothing that a
-    manifest consists of, which are keys with `=`, tables in brackets, and comments."""
+def _hint(given: object, cause: Cause) -> str:
+    """What is said of a Manifest with a form that its machine hasn't; and of a str that is the name of a file, or may be
+    meant for one: it has one line, and nothing that a manifest consists of, which are keys with `=`, tables in brackets,
+    and comments."""
+    if isinstance(given, Manifest) and cause is Cause.VERSION and given.ffa == Ffa.V1_1:
+        newer = [place for place, it in enumerate(given.endpoints) if it.form == Form.FFA_1_2]
+        named = f"{MANAGER + newer[0] if newer[0] else NORMAL_WORLD:04X}" if newer else ""
+        return f"endpoint {named} has Form.FFA_1_2, which needs ffa=Ffa.V1_2" if newer else ""
     if not isinstance(given, str) or not given.strip():
         return ""
     return file_hint(given, "a manifest's text", not any(it in given for it in "=[#\n"))

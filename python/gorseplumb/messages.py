@@ -9,11 +9,15 @@ from dataclasses import dataclass
 from .codes import Form, Function, Properties
 from .descriptors import stores
 from .hexadecimal import by_fields
-from .misuse import check_member, check_member_or_number, check_numbers, refuse
+from .misuse import check_member, check_member_or_number, check_numbers, check_uuid, refuse
 from .outcomes import Call, Operation
 
 HEADER_SIZE = 20
+"""How many bytes the header of a message has, but in the form of FF-A 1.2."""
+HEADER_SIZE_1_2 = 40
+"""How many it has there: a reserved word and a UUID follow."""
 _HEADER = struct.Struct("<IIIHHI")
+_UUID_AT = 24
 _INFORMATION = struct.Struct("<HHI16s")
 _COMPACT_INFORMATION = struct.Struct("<HHI")
 _NIL = uuid.UUID(int=0)
@@ -23,47 +27,66 @@ AARCH64 = 1 << 8
 
 @dataclass(frozen=True, slots=True)
 class IndirectMessage:
-    """A message of FFA_MSG_SEND2, as it stands in the sender's TX and in the receiver's RX."""
+    """A message of FFA_MSG_SEND2, as it stands in the sender's TX and in the receiver's RX, in the sender's form.
+
+    The message begins at `offset`, or right behind the header where that is None. `uuid` names a service of the receiver.
+    Only in the form of FF-A 1.2 has the header room for it; the manager doesn't read it."""
 
     sender: int
     receiver: int
     payload: bytes
-    offset: int = HEADER_SIZE
+    offset: int | None = None
+    uuid: uuid.UUID | None = None
 
     __repr__ = by_fields
 
     def __post_init__(self) -> None:
-        check_numbers(self, "sender", "receiver", "offset")
+        check_numbers(self, "sender", "receiver", *(["offset"] if self.offset is not None else []))
         if not isinstance(self.payload, (bytes, bytearray, memoryview)):
             refuse("payload", "bytes", self.payload, "its encode()" if isinstance(self.payload, str) else None)
+        check_uuid(self.uuid)
 
-    def to_bytes(self) -> bytes:
+    def to_bytes(self, form: Form = Form.FFA_1_1) -> bytes:
         """Header and message, with zeros between."""
-        if self.offset < HEADER_SIZE:
-            raise ValueError(f"the message begins inside its header: offset {self.offset}")
+        least = message_header_size(form)
+        offset = least if self.offset is None else self.offset
+        if offset < least:
+            raise ValueError(f"the message begins inside its header, which has {least} bytes: offset {offset}")
+        if self.uuid is not None and form is not Form.FFA_1_2:
+            raise ValueError(f"the header of a message has no UUID in {form!r}: give Form.FFA_1_2")
         try:
-            header = _HEADER.pack(0, 0, self.offset, self.receiver, self.sender, len(self.payload))
+            header = _HEADER.pack(0, 0, offset, self.receiver, self.sender, len(self.payload))
         except struct.error as wrong:
             raise ValueError(f"a field of the header doesn't hold its number: {wrong}") from None
-        return header.ljust(self.offset, b"\0") + self.payload
+        if self.uuid is not None:
+            header = header.ljust(_UUID_AT, b"\0") + self.uuid.bytes
+        return header.ljust(offset, b"\0") + self.payload
 
     @classmethod
-    def from_bytes(cls, data: bytes) -> IndirectMessage:
-        """The message at the start of a buffer."""
-        if len(data) < HEADER_SIZE:
-            raise ValueError(f"a header has {HEADER_SIZE} bytes, and there are {len(data)}")
+    def from_bytes(cls, data: bytes, form: Form = Form.FFA_1_1) -> IndirectMessage:
+        """The message at the start of a buffer, which a sender of this form wrote."""
+        least = message_header_size(form)
+        if len(data) < least:
+            raise ValueError(f"a header has {least} bytes, and there are {len(data)}")
         flags, reserved, offset, receiver, sender, size = _HEADER.unpack_from(data)
         if flags or reserved:
             raise ValueError("a reserved field of the header is not 0")
-        if offset < HEADER_SIZE or size < 1:
+        if offset < least or size < 1:
             raise ValueError("the message begins inside its header" if size else "the message is empty")
         if offset + size > len(data):
             raise ValueError("the message ends outside the buffer")
-        return cls(sender, receiver, data[offset : offset + size], offset)
+        named = uuid.UUID(bytes=bytes(data[_UUID_AT:least])) if form is Form.FFA_1_2 else _NIL
+        return cls(sender, receiver, data[offset : offset + size], offset, named if named != _NIL else None)
 
     def operations(self, tx: int, form: Form = Form.FFA_1_1) -> list[Operation]:
-        """The stores that write it to TX, and its call. It has one form."""
-        return [*stores(tx, self.to_bytes()), Call((Function.FFA_MSG_SEND2,))]
+        """The stores that write it to TX, and its call."""
+        return [*stores(tx, self.to_bytes(form)), Call((Function.FFA_MSG_SEND2,))]
+
+
+def message_header_size(form: Form) -> int:
+    """How many bytes the header of a message has."""
+    check_member("form", form, Form)
+    return HEADER_SIZE_1_2 if form is Form.FFA_1_2 else HEADER_SIZE
 
 
 @dataclass(frozen=True, slots=True)
@@ -105,7 +128,7 @@ class PartitionInfo:
 def information_size(form: Form) -> int:
     """How many bytes a partition's information has."""
     check_member("form", form, Form)
-    return (_INFORMATION if form is Form.FFA_1_1 else _COMPACT_INFORMATION).size
+    return (_COMPACT_INFORMATION if form is Form.COMPACT else _INFORMATION).size
 
 
 def read_partitions(rx: bytes, count: int, form: Form = Form.FFA_1_1) -> tuple[PartitionInfo, ...]:

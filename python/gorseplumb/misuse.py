@@ -9,6 +9,7 @@ from collections.abc import Iterable, Sequence
 from enum import Enum
 from pathlib import Path
 from typing import NoReturn, TypeVar
+from uuid import UUID
 
 from .hexadecimal import shown
 
@@ -63,6 +64,12 @@ def check_member_or_number(what: str, given: object, members: type[Enum]) -> Non
     """The same, where a plain number is taken as it is."""
     if not is_number(given) or isinstance(given, Enum):
         check_member(what, given, members)
+
+
+def check_uuid(given: object) -> None:
+    """Refuses what is neither None nor a UUID."""
+    if given is not None and not isinstance(given, UUID):
+        refuse("uuid", "a UUID", given, f"UUID({given!r})" if isinstance(given, str) else None)
 
 
 def check_each(what: str, given: object, kind: type) -> None:

@@ -150,9 +150,9 @@ def _allowed_text(allowed: range | None, digits: int) -> str:
 def _field_text(it: Subject) -> str:
     words = flaw_text(it.flaw, it.number) if it.flaw is not None else ""
     size, number = it.size, it.value
-    if it.flaw is Flaw.HEADER_ARRAY_OUTSIDE:
+    if it.flaw is Flaw.HEADER_ARRAY_OUTSIDE and size == 8:
         # Only the number of access descriptors is printed: the first four bytes.
-        size, number = min(size, 4), None if number is None else number % 2**32
+        size, number = 4, None if number is None else number % 2**32
     if size <= 1:
         place, verb = f"byte {short_text(it.first)}", "is"
     else:

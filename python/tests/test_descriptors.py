@@ -8,11 +8,11 @@ from typing import Any, Callable
 
 import pytest
 
-from gorseplumb import DataAccess, Flaw, Form, IndirectMessage, InstructionAccess, Kind, MalformedDescriptor, Offer
+from gorseplumb import DataAccess, Ffa, Flaw, Form, IndirectMessage, InstructionAccess, Kind, MalformedDescriptor, Offer
 from gorseplumb import PageRange, PartitionInfo, Properties, Receiver, Relinquish, Retrieve, RetrieveResponse, Right
 from gorseplumb import Store, read_partitions
 
-FORMS = [Form.FFA_1_1, Form.COMPACT]
+FORMS = list(Form)
 RW = DataAccess.RW
 LEND = Offer(Kind.LEND, 0x8001, (Receiver(0x8002, RW),), (PageRange(0x40021000, 1),))
 TO_TWO = Offer(
@@ -81,8 +81,11 @@ def words(data: bytes) -> dict[int, int]:
 @pytest.mark.parametrize("offer", [LEND, TO_TWO, Offer(Kind.DONATE, 1, (Receiver(2),), (PageRange(4096, 3),), True, 9)])
 def test_reads_what_it_writes(offer: Offer, form: Form) -> None:
     assert Offer.from_bytes(offer.to_bytes(form), offer.kind, form) == offer
-    with pytest.raises(MalformedDescriptor):
-        Offer.from_bytes(offer.to_bytes(form), offer.kind, FORMS[form is Form.FFA_1_1])
+    for other in FORMS:
+        if other is not form:
+            with pytest.raises(MalformedDescriptor) as wrong:
+                Offer.from_bytes(offer.to_bytes(form), offer.kind, other)
+            assert wrong.value.flaw is Flaw.HEADER_ACCESS_SIZE
 
 
 @pytest.mark.parametrize("form", FORMS)
@@ -91,10 +94,12 @@ def test_reads_retrieves_and_responses(form: Form) -> None:
     assert Retrieve.from_bytes(asked.to_bytes(form), 3, form) == asked
     answered = RetrieveResponse(Kind.LEND, 1, 2, Receiver(3, RW, InstructionAccess.NX), (PageRange(4096, 1),), True, 4)
     data = answered.to_bytes(form)
-    assert len(data) == (80 if form is Form.FFA_1_1 else 64) + 16
+    assert len(data) == {Form.FFA_1_1: 80, Form.COMPACT: 64, Form.FFA_1_2: 96}[form] + 16
     assert RetrieveResponse.from_bytes(data + b"rest", form) == answered and data[2] == 0x2F
-    told = replace(answered, non_secure=True).to_bytes(form)
-    assert told == data[:2] + b"\x6F" + data[3:] and RetrieveResponse.from_bytes(told, form).non_secure
+    told, of_non_secure = replace(answered, non_secure=True).to_bytes(form), data[:2] + b"\x6F" + data[3:]
+    is_told = form is not Form.COMPACT
+    assert told == (of_non_secure if is_told else data)
+    assert RetrieveResponse.from_bytes(of_non_secure, form).non_secure is is_told
     given_up = Relinquish(5, 6, zero=True)
     assert Relinquish.from_bytes(given_up.to_bytes() + b"rest") == given_up
 
@@ -105,6 +110,68 @@ def test_compact_header_is_that_of_the_manual() -> None:
     assert struct.unpack_from("<HBBIQ", data, 32) == (0x8002, 2, 0, 48, 0)
     assert struct.unpack_from("<IIQ", data, 48) == (1, 1, 0)
     assert len(data) == 80
+
+
+def test_the_form_of_ffa_1_2_has_access_descriptors_of_32_bytes() -> None:
+    data = LEND.to_bytes(Form.FFA_1_2)
+    assert struct.unpack_from("<HHIQQIIIIQ", data) == (0x8001, 0, 0, 0, 0, 32, 1, 48, 0, 0)
+    assert struct.unpack_from("<HBBI24s", data, 48) == (0x8002, 2, 0, 80, bytes(24))
+    assert struct.unpack_from("<IIQ", data, 80) == (1, 1, 0)
+    assert len(data) == 112
+    share = words(TO_TWO.to_bytes(Form.FFA_1_2))
+    assert (share[0x18], share[0x30], share[0x50], share[0x70]) == (
+        *(0x0000000200000020, 0x0000007000028002),
+        *(0x0000007000018003, 0x0000000200000003),
+    )
+    assert words(Retrieve(1, 2, Receiver(3, RW)).to_bytes(Form.FFA_1_2)) == {
+        **{0x00: 1, 0x08: 2},
+        **{0x18: 0x0000000100000020, 0x20: 0x30, 0x30: 0x20003},
+    }
+
+
+@pytest.mark.parametrize("place", range(8, 32))
+def test_the_rest_of_an_access_descriptor_of_ffa_1_2_is_zero(place: int) -> None:
+    for index in (0, 1):
+        data = bytearray(TO_TWO.to_bytes(Form.FFA_1_2))
+        data[48 + 32 * index + place] = 1
+        with pytest.raises(MalformedDescriptor) as wrong:
+            Offer.from_bytes(bytes(data), Kind.SHARE, Form.FFA_1_2)
+        assert (wrong.value.flaw, wrong.value.index) == (Flaw.ACCESS_RESERVED, index)
+    data = bytearray(Retrieve(1, 2, Receiver(3, RW)).to_bytes(Form.FFA_1_2))
+    data[48 + place] = 1
+    with pytest.raises(MalformedDescriptor) as wrong:
+        Retrieve.from_bytes(bytes(data), 3, Form.FFA_1_2)
+    assert wrong.value.flaw is Flaw.RETRIEVE_ACCESS_RESERVED
+
+
+@pytest.mark.parametrize("form", FORMS)
+def test_ffa_1_2_lets_lends_say_the_memory_and_flags_the_kind(form: Form) -> None:
+    lend_to_two = replace(TO_TWO, kind=Kind.LEND, zero=True)
+    for offer, attributes in ((LEND, 0x2F), (lend_to_two, 0)):
+        data = bytearray(offer.to_bytes(form))
+        data[2] = attributes
+        assert Offer.from_bytes(bytes(data), Kind.LEND, form, Ffa.V1_2) == offer
+        is_refused(data, Kind.LEND, form, Flaw.SEND_ATTRIBUTES)
+    for offer in (LEND, lend_to_two, TO_TWO, Offer(Kind.DONATE, 1, (Receiver(2),), (PageRange(4096, 3),), True)):
+        data = bytearray(offer.to_bytes(form))
+        data[4] |= offer.kind << 3
+        assert Offer.from_bytes(bytes(data), offer.kind, form, Ffa.V1_2) == offer
+        is_refused(data, offer.kind, form, Flaw.SEND_FLAGS)
+        data[4] = data[4] & 7 | (offer.kind % 3 + 1) << 3
+        with pytest.raises(MalformedDescriptor, match="a flag is set that this call does not allow"):
+            Offer.from_bytes(bytes(data), offer.kind, form, Ffa.V1_2)
+
+
+def is_refused(data: bytearray, kind: Kind, form: Form, flaw: Flaw) -> None:
+    """A machine of FF-A 1.1 refuses it for this flaw; one of the form of FF-A 1.2 there is none."""
+    if form is Form.FFA_1_2:
+        with pytest.raises(ValueError, match=r"^a machine of Ffa.V1_1 has no endpoint of Form.FFA_1_2: give Ffa.V1_2$"):
+            Offer.from_bytes(bytes(data), kind, form, Ffa.V1_1)
+    else:
+        for ffa in (None, Ffa.V1_1):
+            with pytest.raises(MalformedDescriptor) as wrong:
+                Offer.from_bytes(bytes(data), kind, form, ffa)
+            assert wrong.value.flaw is flaw
 
 
 # Each condition by a change of the share to two: places are those of the manual's tables, and the composite is at 80.
@@ -202,7 +269,8 @@ def untyped(value: object) -> Any:
         ("lend", "compact", "the str 'lend': give Kind.LEND", "the str 'compact': give Form.COMPACT"),
         (2, 1, "the int 2: give Kind.LEND", "the int 1: give Form.COMPACT"),
         (None, "1.1", "None: give Kind.SHARE or Kind.LEND or Kind.DONATE", "the str '1.1': give Form.FFA_1_1"),
-        (Right.RW, 1.2, "Right.RW: give Kind.", "the float 1.2: give Form.FFA_1_1 or Form.COMPACT"),
+        ("Share", "1.2", "the str 'Share': give Kind.SHARE", "the str '1.2': give Form.FFA_1_2"),
+        (Right.RW, 1.2, "Right.RW: give Kind.", "the float 1.2: give Form.FFA_1_1 or Form.COMPACT or Form.FFA_1_2"),
     ],
 )
 def test_names_the_kind_and_the_form_that_are_meant(kind: Any, form: Any, told: str, other: str) -> None:
@@ -215,6 +283,7 @@ def test_names_the_kind_and_the_form_that_are_meant(kind: Any, form: Any, told: 
         lambda: Offer.from_bytes(LEND.to_bytes(), Kind.LEND, form),
         lambda: Retrieve(0x8001, 1, Receiver(0x8002)).to_bytes(form),
         lambda: PartitionInfo(0x8001, Properties(7)).to_bytes(form),
+        lambda: IndirectMessage(0x8001, 0x8002, b"x").to_bytes(form),
         lambda: read_partitions(bytes(24), 1, form),
     ]
     for asked in of_kind:
@@ -259,6 +328,12 @@ def test_refuses_what_is_no_part_of_a_descriptor() -> None:
         (lambda: Relinquish(1, untyped("vm")), "endpoint is a number, and not the str 'vm'"),
         (lambda: IndirectMessage(1, 2, untyped("hi")), "payload is bytes, and not the str 'hi': give its encode()"),
         (lambda: IndirectMessage(1, untyped("8002"), b"hi"), "receiver is a number, and not the str '8002': give 0x8002"),
+        (lambda: IndirectMessage(1, 2, b"hi", untyped("20")), "offset is a number, and not the str '20': give 0x20"),
+        (lambda: IndirectMessage(1, 2, b"hi", uuid=untyped(5)), "uuid is a UUID, and not the int 5"),
+        (
+            lambda: Offer.from_bytes(LEND.to_bytes(), Kind.LEND, Form.FFA_1_1, untyped("1.2")),
+            "ffa is a Ffa, and not the str '1.2': give Ffa.V1_1 or Ffa.V1_2",
+        ),
         (
             lambda: PartitionInfo(0x8001, untyped("NOTIFICATIONS")),
             "properties is a Properties, and not the str 'NOTIFICATIONS': give Properties.NOTIFICATIONS",

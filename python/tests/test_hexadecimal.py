@@ -53,7 +53,11 @@ RANGES = (PageRange(0x40028000, 16),)
         ),
         (
             IndirectMessage(0x8001, 0x8002, b"\xff"),
-            "IndirectMessage(sender=0x8001, receiver=0x8002, payload=b'\\xff', offset=0x14)",
+            "IndirectMessage(sender=0x8001, receiver=0x8002, payload=b'\\xff', offset=None, uuid=None)",
+        ),
+        (
+            IndirectMessage(0x8001, 0x8002, b"\xff", 40),
+            "IndirectMessage(sender=0x8001, receiver=0x8002, payload=b'\\xff', offset=0x28, uuid=None)",
         ),
         (
             Hint(HintKind.KIND, found=Kind.SHARE, wanted=Kind.LEND),

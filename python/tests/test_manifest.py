@@ -2,6 +2,7 @@
 """Manifests: what a text says, and a text of what values say."""
 from __future__ import annotations
 
+from dataclasses import replace
 from pathlib import Path
 from typing import Any, Callable
 from uuid import UUID
@@ -9,7 +10,7 @@ from uuid import UUID
 import pytest
 from conftest import EXAMPLES, Program
 
-from gorseplumb import Cause, Endpoint, Form, Machine, Manifest, ManifestRefused, Properties, Region, Right
+from gorseplumb import Cause, Endpoint, Ffa, Form, Machine, Manifest, ManifestRefused, Properties, Ram, Region, Right
 
 PARTITIONS = Manifest(
     0x40000000,
@@ -29,6 +30,7 @@ PARTITIONS = Manifest(
     ],
 )
 COMPACT = Manifest(0x40000000, 1, [Endpoint([Region(0x40010000, 1)], form=Form.COMPACT)])
+NEWER = Manifest(0x40000000, 1, [Endpoint([Region(0x40010000, 1)], form=Form.FFA_1_2)], Ffa.V1_2)
 
 
 def test_writes_its_text() -> None:
@@ -47,15 +49,49 @@ def test_reads_what_a_text_says() -> None:
         assert Manifest.read(manifest.text()) == manifest
 
 
+def test_a_form_of_ffa_1_2_needs_ffa_1_2() -> None:
+    with Machine(NEWER) as machine:
+        assert machine.form(0) is Form.FFA_1_2
+    world, partition, _ = PARTITIONS.endpoints
+    newer = replace(partition, form=Form.FFA_1_2)
+    refusals = [
+        (replace(NEWER, ffa=Ffa.V1_1), 0, "0000"),
+        (replace(PARTITIONS, endpoints=[world, newer]), 0x8001, "8001"),
+    ]
+    for manifest, endpoint, named in refusals:
+        boots: list[Callable[[], object]] = [lambda: Machine(manifest), lambda: Machine(manifest, Ram(manifest.ram_blocks))]
+        for boot in boots:
+            with pytest.raises(ManifestRefused) as refused:
+                boot()
+            assert (refused.value.cause, refused.value.endpoint) == (Cause.VERSION, endpoint)
+            told = f"M14 Version: endpoint {named} has Form.FFA_1_2, which needs ffa=Ffa.V1_2"
+            assert str(refused.value) == told
+    with Machine(replace(PARTITIONS, endpoints=[world, newer], ffa=Ffa.V1_2)) as machine:
+        assert machine.form(0x8001) is Form.FFA_1_2
+
+
+def test_a_text_of_ffa_1_2_is_for_the_program() -> None:
+    assert NEWER.text() == COMPACT.text().replace("compact", "1.2")
+    with pytest.raises(ManifestRefused) as refused:
+        Manifest.read(NEWER.text())
+    told = 'version = "1.2": must be "1.1" or "compact"; "1.2" needs a machine of FF-A 1.2'
+    assert str(refused.value) == f"M14 Version: endpoint 0000 (the 1st [[endpoint]]): {told}"
+    odd: Any = 3
+    with pytest.raises(ManifestRefused) as refused:
+        Machine(Manifest(0x40000000, 1, [Endpoint([Region(0x40010000, 1)], form=odd)], Ffa.V1_2))
+    assert str(refused.value) == "M14 Version: endpoint 0000"
+
+
 def test_names_the_member_that_is_meant() -> None:
     # a type checker refuses these
     odd: list[Any] = ["rw", "rw-", "compact", "sends_requests", "all", "00112233-4455-6677-8899-aabbccddeeff"]
-    odd += ["40010000", (0x40010000, 16)]
+    odd += ["40010000", (0x40010000, 16), "1.2"]
     region = Region(0x40010000, 1)
     makes: list[tuple[Callable[[], object], str]] = [
         (lambda: Region(0, 1, odd[0]), "rights is a Right, and not the str 'rw': give Right.RW"),
         (lambda: Region(0, 1, odd[1]), "rights is a Right, and not the str 'rw-': give Right.RW"),
         (lambda: Endpoint([region], form=odd[2]), "form is a Form, and not the str 'compact': give Form.COMPACT"),
+        (lambda: Endpoint([region], form=odd[8]), "form is a Form, and not the str '1.2': give Form.FFA_1_2"),
         (
             lambda: Endpoint([region], odd[3]),
             "properties is a Properties, and not the str 'sends_requests': give Properties.SENDS_REQUESTS",

@@ -3,13 +3,14 @@
 from __future__ import annotations
 
 import re
+from dataclasses import replace
 
 import pytest
 from conftest import EXAMPLES, Program
 
-from gorseplumb import About, AccessFault, Call, Check, DataAccess, Denied, ErrorCode, Fault, Fetch, Flaw, Form
+from gorseplumb import About, AccessFault, Call, Check, DataAccess, Denied, ErrorCode, Fault, Fetch, Ffa, Flaw, Form
 from gorseplumb import Function, Hindrance, Hint, HintKind, InstructionAccess, InvalidParameters, Kind, Load, Machine
-from gorseplumb import MalformedDescriptor, Obstacle, Offer, Operation, PageRange, Reason, Receiver, Relinquish
+from gorseplumb import MalformedDescriptor, Manifest, Obstacle, Offer, Operation, PageRange, Reason, Receiver, Relinquish
 from gorseplumb import Retrieve, Right, RunState, Store, Subject, play
 from gorseplumb.errors import call_refused
 
@@ -127,6 +128,7 @@ def test_prints_what_the_program_explains(program: Program) -> None:
         (Hint(HintKind.VALUE, value=0x80010000), ", and must be 80010000"),
         (Hint(HintKind.FORM, 0x8001, form=Form.COMPACT), ", and must be 00000000, because 8001 uses the compact form"),
         (Hint(HintKind.FORM, 0, form=Form.FFA_1_1), ", and must be 00000010, because 0000 uses version 1.1"),
+        (Hint(HintKind.FORM, 0x8001, form=Form.FFA_1_2), ", and must be 00000020, because 8001 uses version 1.2"),
         (Hint(HintKind.WORD, offset=8, value=0x14), ": bytes 08 to 0B are 00000014"),
         (
             Hint(HintKind.MESSAGE, offset=0x14, size=0x1000, room=0x1000),
@@ -213,11 +215,11 @@ RETRIEVE = Retrieve(0x8002, 1, Receiver(0x8001, DataAccess.RW, InstructionAccess
 TX = 0x4002E000
 
 
-def ours(request: Offer | Retrieve, data: bytes, form: Form) -> tuple[Flaw, int] | None:
+def ours(request: Offer | Retrieve, data: bytes, form: Form, ffa: Ffa) -> tuple[Flaw, int] | None:
     """The first condition that our reader finds broken."""
     try:
         if isinstance(request, Offer):
-            Offer.from_bytes(data, request.kind, form)
+            Offer.from_bytes(data, request.kind, form, ffa)
         else:
             Retrieve.from_bytes(data, request.receiver.endpoint, form)
     except MalformedDescriptor as wrong:
@@ -232,22 +234,25 @@ def cores(machine: Machine, call: Operation) -> tuple[Flaw | None, int] | None:
     return (reason.subject.flaw, reason.subject.number) if reason is not None and is_about_bytes else None
 
 
-@pytest.mark.parametrize("form", [Form.FFA_1_1, Form.COMPACT])
+SERVED = [(Form.FFA_1_1, Ffa.V1_1), (Form.COMPACT, Ffa.V1_1), *((form, Ffa.V1_2) for form in Form)]
+
+
+@pytest.mark.parametrize("form, ffa", SERVED)
 @pytest.mark.parametrize("request_of", [SHARE, LEND, DONATE, RETRIEVE])
-def test_readers_find_the_condition_that_the_core_finds(request_of: Offer | Retrieve, form: Form) -> None:
-    first, version, others = MANIFEST.read_text().partition("[[endpoint]] # the partition 8001")
-    text = first + version + others.replace('version = "1.1"', f'version = "{form.text}"', 1)
+def test_readers_find_the_condition_that_the_core_finds(request_of: Offer | Retrieve, form: Form, ffa: Ffa) -> None:
+    told_by = Manifest.read(MANIFEST)
+    world, first, *others = told_by.endpoints
     found = set()
-    with Machine(text) as machine:
+    with Machine(replace(told_by, endpoints=[world, replace(first, form=form), *others], ffa=ffa)) as machine:
         machine.do(Function.FFA_RUN, partition=0x8001)
         machine.do(Function.FFA_RXTX_MAP, tx=TX, rx=0x4002F000, pages=1)
         *_, call = request_of.operations(TX, form)
         whole = request_of.to_bytes(form)
         for place in range(len(whole)):
-            for value in (0, 1, 2, 3, 0x0F, 0x10, 0x30, 0x80, 0xFF):
+            for value in (0, 1, 2, 3, 8, 9, 0x0F, 0x10, 0x18, 0x20, 0x2F, 0x30, 0x80, 0xFF):
                 data = whole[:place] + bytes([value]) + whole[place + 1 :]
                 machine.write(TX, data)
-                told = ours(request_of, data, form)
+                told = ours(request_of, data, form, ffa)
                 assert told == cores(machine, call), (place, value)
                 found.add(told[0] if told is not None else None)
     assert len(found) > 10

@@ -2,6 +2,7 @@
 """Registers by name, messages and partition information: values from the manual's pages."""
 from __future__ import annotations
 
+import struct
 import uuid
 from typing import Any, Callable
 
@@ -239,11 +240,36 @@ def test_writes_the_message_of_the_worked_example() -> None:
     assert len(data) == 32
     assert int.from_bytes(data[8:16], "little") == 0x8001800200000018
     assert IndirectMessage.from_bytes(data + b"rest") == message
-    with pytest.raises(ValueError, match="inside its header"):
+    with pytest.raises(ValueError, match="inside its header, which has 20 bytes: offset 19"):
         IndirectMessage(1, 2, b"x", 19).to_bytes()
+    assert IndirectMessage(1, 2, b"x").to_bytes() == IndirectMessage(1, 2, b"x", 20).to_bytes(Form.COMPACT)
     for wrong in (data[:19], b"\1" + data[1:], data[:31], data[:16] + b"\0\0\0\0" + data[20:]):
         with pytest.raises(ValueError):
             IndirectMessage.from_bytes(wrong)
+
+
+def test_the_header_of_a_message_of_ffa_1_2_has_40_bytes() -> None:
+    service = uuid.UUID("00112233-4455-6677-8899-aabbccddeeff")
+    plain, named = IndirectMessage(0x8001, 0x8002, b"message"), IndirectMessage(0x8001, 0x8002, b"message", 48, service)
+    data = plain.to_bytes(Form.FFA_1_2)
+    assert data == struct.pack("<IIIHHI20x", 0, 0, 40, 0x8002, 0x8001, 7) + b"message"
+    assert IndirectMessage.from_bytes(data, Form.FFA_1_2) == IndirectMessage(0x8001, 0x8002, b"message", 40)
+    data = named.to_bytes(Form.FFA_1_2)
+    assert data == struct.pack("<IIIHHI4x16s8x", 0, 0, 48, 0x8002, 0x8001, 7, service.bytes) + b"message"
+    assert IndirectMessage.from_bytes(data + b"rest", Form.FFA_1_2) == named
+    # In the others the header is shorter, and has no UUID.
+    assert IndirectMessage.from_bytes(data) == IndirectMessage(0x8001, 0x8002, b"message", 48)
+    for short in (20, 39):
+        with pytest.raises(ValueError, match=f"inside its header, which has 40 bytes: offset {short}"):
+            IndirectMessage(0x8001, 0x8002, b"message", short).to_bytes(Form.FFA_1_2)
+        data = IndirectMessage(0x8001, 0x8002, b"a message of 24 or more", short).to_bytes()
+        with pytest.raises(ValueError, match="the message begins inside its header"):
+            IndirectMessage.from_bytes(data, Form.FFA_1_2)
+    with pytest.raises(ValueError, match="a header has 40 bytes, and there are 39"):
+        IndirectMessage.from_bytes(bytes(39), Form.FFA_1_2)
+    for form in (Form.FFA_1_1, Form.COMPACT):
+        with pytest.raises(ValueError, match=f"has no UUID in {form!r}: give Form.FFA_1_2"):
+            named.to_bytes(form)
 
 
 def test_reads_the_partitions_of_the_worked_example() -> None:
@@ -257,6 +283,8 @@ def test_reads_the_partitions_of_the_worked_example() -> None:
         PartitionInfo(0x8002, Properties(5), named[1]),
     )
     assert [it.to_bytes() for it in told] == [first, second]
+    assert read_partitions(first + second, 2, Form.FFA_1_2) == told
+    assert [it.to_bytes(Form.FFA_1_2) for it in told] == [first, second]
     compact = PartitionInfo(0x8001, Properties(7))
     assert compact.to_bytes(Form.COMPACT) == (0x0000000700018001).to_bytes(8, "little")
     assert PartitionInfo.from_bytes(compact.to_bytes(Form.COMPACT), Form.COMPACT) == compact

@@ -97,7 +97,7 @@ codes! {
     /// which range.
     pub enum Flaw: u32 {
         1 HeaderShort "the descriptor is shorter than its header",
-        2 HeaderAccessSize "the access descriptor size field is not 16, or not 0 in the compact form",
+        2 HeaderAccessSize "the access descriptor size field is not 16, 32 in FF-A 1.2, or 0 in the compact form",
         3 HeaderArrayUnaligned "the offset of the access descriptors is not a multiple of 16",
         4 HeaderArrayInHeader "the access descriptors begin inside the header",
         5 HeaderArrayOutside "the access descriptors end outside the descriptor",

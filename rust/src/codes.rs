@@ -98,7 +98,7 @@ codes! {
         11 RegionCount "an endpoint has no region, or more than 16",
         12 RegionOutside "a region isn't whole pages in RAM that are none of the tables', or has none",
         13 RegionOverlap "a region has a page of a region before it",
-        14 Version "a version is unknown",
+        14 Version "a version is unknown, or is 1.2 on a machine of FF-A 1.1",
         25 TablesOutside "RAM hasn't all tables from the page on that is told",
     }
 }

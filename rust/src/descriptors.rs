@@ -4,11 +4,11 @@ use crate::checks::Flaw;
 use crate::functions::Function;
 use crate::hexadecimal::{shown, Hexadecimal};
 use crate::layout::{
-    attributes, check_access, check_asked, check_count, check_permissions, check_range, check_send, header_size,
-    read_access, read_count, read_header, read_range, require, total, u16_at, u32_at, u64_at, Access, DescriptorBytes,
-    Header, ENTRY, NON_SECURE, NORMAL_MEMORY, RELINQUISH,
+    access_size, attributes, check_access, check_asked, check_count, check_permissions, check_range, check_send,
+    flags_but_kind, header_size, read_count, read_header, read_range, require, total, u16_at, u32_at, u64_at, Access,
+    Array, DescriptorBytes, Header, ENTRY, NON_SECURE, NORMAL_MEMORY, RELINQUISH,
 };
-use crate::manifest::Version;
+use crate::manifest::{Ffa, Version};
 use crate::ram::PAGE_SIZE;
 use crate::{Handle, Id};
 use core::fmt;
@@ -19,7 +19,8 @@ pub use crate::raw::MOST_RANGES;
 pub const MOST_RECEIVERS: usize = 4;
 
 /// How many bytes a descriptor has at most, as this crate writes it.
-pub const MOST_DESCRIPTOR: usize = header_size(Version::V1_1) + ENTRY * (MOST_RECEIVERS + 1 + MOST_RANGES);
+pub const MOST_DESCRIPTOR: usize =
+    header_size(Version::V1_2) + access_size(Version::V1_2) * MOST_RECEIVERS + ENTRY * (1 + MOST_RANGES);
 
 /// The kind of a memory transaction, by its number in a descriptor's flags.
 #[derive(Clone, Copy, Debug, PartialEq, Eq, Hash)]
@@ -110,7 +111,7 @@ impl Receiver {
 
     fn access(&self, composite: u32) -> Access {
         let permissions = self.data as u8 | (self.instructions as u8) << 2;
-        Access { endpoint: self.endpoint.0, permissions, flags: 0, composite, reserved: 0 }
+        Access { endpoint: self.endpoint.0, permissions, flags: 0, composite, is_rest_zero: true }
     }
 
     /// Of permissions that were checked.
@@ -194,6 +195,7 @@ impl std::error::Error for DescriptorError {
 /// let ranges = [PageRange::new(0x4002_1000, 1)];
 /// let lend = Offer::new(Kind::Lend, Id(0x8001), &receivers, &ranges);
 /// assert_eq!(lend.to_bytes(Version::V1_1)?.len(), 96);
+/// assert_eq!(lend.to_bytes(Version::V1_2)?.len(), 112);
 /// assert_eq!(lend.to_bytes(Version::Compact)?.len(), 80);
 ///
 /// let error = Offer { zero: true, kind: Kind::Share, ..lend }.to_bytes(Version::V1_1).unwrap_err();
@@ -242,11 +244,11 @@ impl OfferRoom {
         bytes: &[u8],
         kind: Kind,
         header: &Header,
-        array: usize,
+        array: Array,
         composite: u32,
     ) -> Result<(), DescriptorError> {
         for index in 0..header.count as usize {
-            let access = read_access(bytes, array + ENTRY * index);
+            let access = array.read(bytes, index);
             check_access(kind, header.sender, composite, &access, &self.receivers[..index])?;
             self.receivers[index] = Receiver::of(&access);
         }
@@ -294,9 +296,9 @@ impl<'lists> Offer<'lists> {
         }
     }
 
-    /// How many pages it has, if the machine finds it well formed.
+    /// How many pages it has, if the machine finds it well formed, whichever version of FF-A it serves.
     fn check(&self) -> Result<u32, DescriptorError> {
-        check_send(self.kind, &self.header())?;
+        check_send(Ffa::V1_1, self.kind, &self.header())?;
         for (index, receiver) in self.receivers.iter().enumerate() {
             check_access(self.kind, self.sender.0, 0, &receiver.access(0), &self.receivers[..index])?;
         }
@@ -312,23 +314,24 @@ impl<'lists> Offer<'lists> {
         u32::try_from(total(self.ranges)).map_err(|_| DescriptorError { flaw: Flaw::CompositeTotal, index: 0 })
     }
 
-    /// The descriptor, in the form of the sender's version: its parts stand one behind the other.
+    /// The descriptor, in the sender's form: its parts stand one behind the other.
     ///
     /// # Errors
     /// The first condition by which the machine would find it malformed.
     pub fn to_bytes(&self, form: Version) -> Result<DescriptorBytes, DescriptorError> {
         let pages = self.check()?;
-        let composite = header_size(form) + ENTRY * self.receivers.len();
+        let composite = header_size(form) + access_size(form) * self.receivers.len();
         let mut bytes = DescriptorBytes::NONE;
         bytes.put_header(form, &self.header());
         for receiver in self.receivers {
-            bytes.put_access(&receiver.access(composite as u32));
+            bytes.put_access(form, &receiver.access(composite as u32));
         }
         bytes.put_composite(pages, self.ranges);
         Ok(bytes)
     }
 
-    /// What a descriptor of this kind and form says, with lists that stand in the room.
+    /// What a descriptor of this kind and form says, with lists that stand in the room. The machine that reads it serves FF-A 1.2
+    /// if the form is [`Version::V1_2`], and else FF-A 1.1.
     ///
     /// # Errors
     /// The first condition that the bytes break, as the machine has it. The room holds anything then.
@@ -338,18 +341,35 @@ impl<'lists> Offer<'lists> {
         form: Version,
         room: &'lists mut OfferRoom,
     ) -> Result<Offer<'lists>, DescriptorError> {
+        let ffa = if form == Version::V1_2 { Ffa::V1_2 } else { Ffa::V1_1 };
+        Offer::read_for(bytes, kind, form, ffa, room)
+    }
+
+    /// The same, for a machine of this version of FF-A. On one of FF-A 1.2 each lend may leave the memory attributes to its
+    /// receivers, and the flags may name the kind, in each form.
+    ///
+    /// # Errors
+    /// The same, and [`Flaw::HeaderAccessSize`] for the form [`Version::V1_2`] on a machine of FF-A 1.1, which does not have it.
+    pub fn read_for(
+        bytes: &[u8],
+        kind: Kind,
+        form: Version,
+        ffa: Ffa,
+        room: &'lists mut OfferRoom,
+    ) -> Result<Offer<'lists>, DescriptorError> {
+        require(form != Version::V1_2 || ffa == Ffa::V1_2, Flaw::HeaderAccessSize)?;
         let (header, array) = read_header(bytes, form)?;
-        check_send(kind, &header)?;
-        let composite = u32_at(bytes, array + 4);
+        check_send(ffa, kind, &header)?;
+        let composite = array.composite(bytes);
         room.read_receivers(bytes, kind, &header, array, composite)?;
-        let count = read_count(bytes, composite, array, header.count)?;
+        let count = read_count(bytes, composite, array)?;
         room.read_ranges(bytes, composite as usize, count)?;
         Ok(Offer {
             kind,
             sender: Id(header.sender),
             receivers: &room.receivers[..header.count as usize],
             ranges: &room.ranges[..count],
-            zero: header.flags == 1,
+            zero: flags_but_kind(ffa, kind, header.flags) == 1,
             tag: header.tag,
         })
     }
@@ -379,14 +399,14 @@ impl Retrieve {
         Retrieve { sender, handle, receiver, tag: 0, kind: None }
     }
 
-    /// The descriptor, in the form of the receiver's version. What it says is never malformed.
+    /// The descriptor, in the receiver's form. What it says is never malformed.
     #[must_use]
     pub fn to_bytes(&self, form: Version) -> DescriptorBytes {
         let mut bytes = DescriptorBytes::NONE;
         let flags = self.kind.map_or(0, |kind| (kind as u32) << 3);
         let (sender, handle, tag) = (self.sender.0, self.handle.0, self.tag);
         bytes.put_header(form, &Header { sender, attributes: 0, flags, handle, tag, count: 1 });
-        bytes.put_access(&self.receiver.access(0));
+        bytes.put_access(form, &self.receiver.access(0));
         bytes
     }
 
@@ -399,7 +419,7 @@ impl Retrieve {
         require(matches!(header.attributes, 0 | NORMAL_MEMORY), Flaw::RetrieveAttributes)?;
         require(header.flags & !0x18 == 0, Flaw::RetrieveFlags)?;
         require(header.count == 1, Flaw::RetrieveAccessCount)?;
-        let access = read_access(bytes, array);
+        let access = array.read(bytes, 0);
         check_asked(endpoint.0, &access)?;
         Ok(Retrieve {
             sender: Id(header.sender),
@@ -453,7 +473,8 @@ pub struct RetrieveResponse {
     pub zeroed: bool,
     /// The offer's tag.
     pub tag: u64,
-    /// Whether the pages are told to be non-secure, as only a machine of [FF-A 1.2](crate::Ffa::V1_2) tells it.
+    /// Whether the pages are told to be non-secure, as only a machine of [FF-A 1.2](crate::Ffa::V1_2) tells it, and not in the
+    /// compact form.
     pub non_secure: bool,
     count: usize,
     ranges: [PageRange; MOST_RANGES],
@@ -466,17 +487,17 @@ impl RetrieveResponse {
         &self.ranges[..self.count]
     }
 
-    /// What the bytes of RX say, in the form of the receiver's version. Those behind the response may be anything.
+    /// What the bytes of RX say, in the receiver's form. Those behind the response may be anything.
     ///
     /// # Errors
     /// The first condition that they break. No response of a machine does.
     pub fn read(bytes: &[u8], form: Version) -> Result<RetrieveResponse, DescriptorError> {
         let (header, array) = read_header(bytes, form)?;
         require(header.count == 1, Flaw::RetrieveAccessCount)?;
-        let access = read_access(bytes, array);
+        let access = array.read(bytes, 0);
         check_permissions(access.permissions)?;
         let kind = Kind::of(header.flags >> 3 & 3).ok_or(DescriptorError { flaw: Flaw::RetrieveFlags, index: 0 })?;
-        let count = read_count(bytes, access.composite, array, 1)?;
+        let count = read_count(bytes, access.composite, array)?;
         let mut ranges = [PageRange::NONE; MOST_RANGES];
         for (index, range) in ranges[..count].iter_mut().enumerate() {
             *range = read_range(bytes, access.composite as usize + ENTRY * (1 + index)).0;
@@ -488,7 +509,7 @@ impl RetrieveResponse {
             receiver: Receiver::of(&access),
             zeroed: header.flags & 1 != 0,
             tag: header.tag,
-            non_secure: header.attributes & NON_SECURE != 0,
+            non_secure: form != Version::Compact && header.attributes & NON_SECURE != 0,
             count,
             ranges,
         })

@@ -176,9 +176,7 @@ impl Hint {
             raw::HINT_HELD => Hint::Held(right(first)),
             raw::HINT_ROOM => Hint::Room(first),
             raw::HINT_VALUE => Hint::Wanted(first),
-            raw::HINT_FORM => {
-                Hint::Form { caller: id, form: if second == 0 { Version::Compact } else { Version::V1_1 } }
-            }
+            raw::HINT_FORM => Hint::Form { caller: id, form: form_of(second) },
             raw::HINT_WORD => Hint::Word { place: first as u32, value: second as u32 },
             raw::HINT_MESSAGE => Hint::Message { offset: first as u32, size: second as u32, room: third },
             raw::HINT_OUTSIDE => Hint::Outside(first),
@@ -253,6 +251,15 @@ fn right(number: u64) -> Rights {
     known(Rights::of(number as u32))
 }
 
+/// The form whose headers have this size of an access descriptor.
+fn form_of(size: u64) -> Version {
+    match size {
+        0 => Version::Compact,
+        16 => Version::V1_1,
+        _ => Version::V1_2,
+    }
+}
+
 /// The kind by its number in a hint, which counts from 0.
 fn kind_of(number: u64) -> Kind {
     known(Kind::of(number as u32 + 1))
@@ -315,6 +322,7 @@ fn put_form(to: &mut fmt::Formatter<'_>, caller: Id, form: Version) -> fmt::Resu
     let (size, used) = match form {
         Version::Compact => (0, "the compact form"),
         Version::V1_1 => (16, "version 1.1"),
+        Version::V1_2 => (32, "version 1.2"),
     };
     write!(to, ", and must be {size:08X}, because {caller} uses {used}")
 }

@@ -3,13 +3,13 @@
 use crate::checks::Flaw;
 use crate::descriptors::{DescriptorError, Kind, PageRange, Receiver, MOST_DESCRIPTOR, MOST_RECEIVERS};
 use crate::hexadecimal::All;
-use crate::manifest::Version;
+use crate::manifest::{Ffa, Version};
 use crate::ram::PAGE_SIZE;
 use crate::raw::MOST_RANGES;
 use core::fmt;
 use core::ops::Deref;
 
-/// The size of an access descriptor, of a composite without its ranges, and of a range.
+/// The size of a composite without its ranges, and of a range.
 pub(crate) const ENTRY: usize = 16;
 
 pub(crate) const NORMAL_MEMORY: u16 = 0x2F;
@@ -22,15 +22,23 @@ pub(crate) const RELINQUISH: usize = 18;
 /// How many bytes a transaction header has.
 pub(crate) const fn header_size(form: Version) -> usize {
     match form {
-        Version::V1_1 => 48,
+        Version::V1_1 | Version::V1_2 => 48,
         Version::Compact => 32,
+    }
+}
+
+/// How many bytes an access descriptor has.
+pub(crate) const fn access_size(form: Version) -> usize {
+    match form {
+        Version::V1_1 | Version::Compact => 16,
+        Version::V1_2 => 32,
     }
 }
 
 /// What a header tells as the size of an access descriptor.
 const fn told_size(form: Version) -> u32 {
     match form {
-        Version::V1_1 => ENTRY as u32,
+        Version::V1_1 | Version::V1_2 => access_size(form) as u32,
         Version::Compact => 0,
     }
 }
@@ -45,13 +53,13 @@ pub(crate) struct Header {
     pub count: u32,
 }
 
-/// An access descriptor.
+/// An access descriptor. Behind the offset of the composite its bytes are reserved: they must be 0.
 pub(crate) struct Access {
     pub endpoint: u16,
     pub permissions: u8,
     pub flags: u8,
     pub composite: u32,
-    pub reserved: u64,
+    pub is_rest_zero: bool,
 }
 
 /// The bytes of a descriptor, [`MOST_DESCRIPTOR`] at most: a slice by `Deref`, which asks for no memory.
@@ -78,17 +86,20 @@ impl DescriptorBytes {
         self.put(header.tag.to_le_bytes());
         self.put(told_size(form).to_le_bytes());
         self.put(header.count.to_le_bytes());
-        if form == Version::V1_1 {
+        if form != Version::Compact {
             self.put((header_size(form) as u32).to_le_bytes());
             self.put([0; 12]);
         }
     }
 
-    pub(crate) fn put_access(&mut self, access: &Access) {
+    pub(crate) fn put_access(&mut self, form: Version, access: &Access) {
         self.put(access.endpoint.to_le_bytes());
         self.put([access.permissions, access.flags]);
         self.put(access.composite.to_le_bytes());
-        self.put(access.reserved.to_le_bytes());
+        match form {
+            Version::V1_1 | Version::Compact => self.put([0; 8]),
+            Version::V1_2 => self.put([0; 24]),
+        }
     }
 
     pub(crate) fn put_composite(&mut self, total: u32, ranges: &[PageRange]) {
@@ -155,8 +166,36 @@ fn require_of(index: usize, holds: bool, flaw: Flaw) -> Result<(), DescriptorErr
     Err(DescriptorError { flaw, index: index as u32 })
 }
 
-/// The header of some bytes, and where its access descriptors begin: behind it, and all of them inside the bytes.
-pub(crate) fn read_header(bytes: &[u8], form: Version) -> Result<(Header, usize), DescriptorError> {
+/// Where the access descriptors of a header begin and end, all inside the bytes.
+#[derive(Clone, Copy)]
+pub(crate) struct Array {
+    form: Version,
+    first: u32,
+    end: u64,
+}
+
+impl Array {
+    /// The access descriptor of this index, if it is one of them.
+    pub(crate) fn read(self, bytes: &[u8], index: usize) -> Access {
+        let size = access_size(self.form);
+        let bytes = &bytes[self.first as usize + size * index..][..size];
+        Access {
+            endpoint: u16_at(bytes, 0),
+            permissions: bytes[2],
+            flags: bytes[3],
+            composite: u32_at(bytes, 4),
+            is_rest_zero: bytes[8..].iter().all(|byte| *byte == 0),
+        }
+    }
+
+    /// The offset of the composite, by the first access descriptor, which must be there.
+    pub(crate) fn composite(self, bytes: &[u8]) -> u32 {
+        u32_at(bytes, self.first as usize + 4)
+    }
+}
+
+/// The header of some bytes, and its access descriptors, which begin behind it.
+pub(crate) fn read_header(bytes: &[u8], form: Version) -> Result<(Header, Array), DescriptorError> {
     let size = header_size(form);
     require(bytes.len() >= size, Flaw::HeaderShort)?;
     require(u32_at(bytes, 24) == told_size(form), Flaw::HeaderAccessSize)?;
@@ -165,7 +204,8 @@ pub(crate) fn read_header(bytes: &[u8], form: Version) -> Result<(Header, usize)
     require(array % ENTRY as u32 == 0, Flaw::HeaderArrayUnaligned)?;
     require(array >= size as u32, Flaw::HeaderArrayInHeader)?;
     let count = u32_at(bytes, 28);
-    require(end(array.into(), count) <= bytes.len() as u64, Flaw::HeaderArrayOutside)?;
+    let end = u64::from(array) + access_size(form) as u64 * u64::from(count);
+    require(end <= bytes.len() as u64, Flaw::HeaderArrayOutside)?;
     require(is_compact || bytes[36..48] == [0; 12], Flaw::HeaderReserved)?;
     let header = Header {
         sender: u16_at(bytes, 0),
@@ -175,23 +215,12 @@ pub(crate) fn read_header(bytes: &[u8], form: Version) -> Result<(Header, usize)
         tag: u64_at(bytes, 16),
         count,
     };
-    Ok((header, array as usize))
+    Ok((header, Array { form, first: array, end }))
 }
 
-/// Where so many entries end.
+/// Where so many entries of a composite end, from an offset on.
 fn end(first: u64, count: u32) -> u64 {
     first + ENTRY as u64 * u64::from(count)
-}
-
-/// The access descriptor at a place, which is all there.
-pub(crate) fn read_access(bytes: &[u8], at: usize) -> Access {
-    Access {
-        endpoint: u16_at(bytes, at),
-        permissions: bytes[at + 2],
-        flags: bytes[at + 3],
-        composite: u32_at(bytes, at + 4),
-        reserved: u64_at(bytes, at + 8),
-    }
 }
 
 /// The memory attributes of an offer: a donate, and a lend to one, leave them to the receiver.
@@ -202,12 +231,29 @@ pub(crate) const fn attributes(kind: Kind, receivers: u32) -> u16 {
     }
 }
 
-/// What holds of the header of an offer.
-pub(crate) fn check_send(kind: Kind, header: &Header) -> Result<(), DescriptorError> {
+/// Whether an offer may have these attributes: on a machine of FF-A 1.2 each lend may leave them to its receivers, and may not.
+fn is_attributes(ffa: Ffa, kind: Kind, header: &Header) -> bool {
+    match (ffa, kind) {
+        (Ffa::V1_2, Kind::Lend) => matches!(header.attributes, 0 | NORMAL_MEMORY),
+        _ => header.attributes == attributes(kind, header.count),
+    }
+}
+
+/// The flags of an offer without its own kind in bits 4:3, where a machine of FF-A 1.2 allows it.
+pub(crate) const fn flags_but_kind(ffa: Ffa, kind: Kind, flags: u32) -> u32 {
+    let own = (kind as u32) << 3;
+    match ffa {
+        Ffa::V1_2 if flags & 0x18 == own => flags & !own,
+        _ => flags,
+    }
+}
+
+/// What holds of the header of an offer to a machine of this version of FF-A.
+pub(crate) fn check_send(ffa: Ffa, kind: Kind, header: &Header) -> Result<(), DescriptorError> {
     let most_flags = if kind == Kind::Share { 0 } else { 1 };
     let most_receivers = if kind == Kind::Donate { 1 } else { MOST_RECEIVERS };
-    require(header.attributes == attributes(kind, header.count), Flaw::SendAttributes)?;
-    require(header.flags <= most_flags, Flaw::SendFlags)?;
+    require(is_attributes(ffa, kind, header), Flaw::SendAttributes)?;
+    require(flags_but_kind(ffa, kind, header.flags) <= most_flags, Flaw::SendFlags)?;
     require(header.handle == 0, Flaw::SendHandle)?;
     require(header.count >= 1, Flaw::SendNoReceiver)?;
     require(header.count as usize <= most_receivers, Flaw::SendManyReceivers)
@@ -229,7 +275,7 @@ pub(crate) fn check_access(
     require(is_grant, Flaw::AccessPermissions)?;
     require(access.flags == 0, Flaw::AccessFlags)?;
     require(access.composite == composite, Flaw::AccessOtherComposite)?;
-    require(access.reserved == 0, Flaw::AccessReserved)?;
+    require(access.is_rest_zero, Flaw::AccessReserved)?;
     require(access.endpoint != sender, Flaw::AccessReceiverIsSender)?;
     require(earlier.iter().all(|it| it.endpoint.0 != access.endpoint), Flaw::AccessReceiverTwice)
 }
@@ -241,7 +287,7 @@ pub(crate) fn check_asked(endpoint: u16, access: &Access) -> Result<(), Descript
     require(access.permissions >> 4 == 0, Flaw::RetrievePermissionsReserved)?;
     require(access.flags == 0, Flaw::RetrieveAccessFlags)?;
     require(access.composite == 0, Flaw::RetrieveCompositeTold)?;
-    require(access.reserved == 0, Flaw::RetrieveAccessReserved)
+    require(access.is_rest_zero, Flaw::RetrieveAccessReserved)
 }
 
 /// Whether permissions say what there is to say.
@@ -256,12 +302,12 @@ pub(crate) fn check_count(count: usize) -> Result<(), DescriptorError> {
     require(count <= MOST_RANGES, Flaw::CompositeManyRanges)
 }
 
-/// How many ranges the composite at a place has, behind so many access descriptors: all inside the bytes.
-pub(crate) fn read_count(bytes: &[u8], composite: u32, array: usize, entries: u32) -> Result<usize, DescriptorError> {
+/// How many ranges the composite at a place has, behind the access descriptors: all inside the bytes.
+pub(crate) fn read_count(bytes: &[u8], composite: u32, array: Array) -> Result<usize, DescriptorError> {
     let len = bytes.len() as u64;
     require(end(composite.into(), 1) <= len, Flaw::CompositeOutside)?;
     require(composite % ENTRY as u32 == 0, Flaw::CompositeUnaligned)?;
-    require(end(array as u64, entries) <= composite.into(), Flaw::CompositeInArray)?;
+    require(array.end <= composite.into(), Flaw::CompositeInArray)?;
     let at = composite as usize;
     let count = u32_at(bytes, at + 4);
     check_count(count as usize)?;

@@ -72,7 +72,9 @@ impl Region {
     }
 }
 
-/// The form in which an endpoint writes and reads descriptors.
+/// The form in which an endpoint writes and reads descriptors. On a machine of [FF-A 1.2](Ffa::V1_2) an endpoint changes its form
+/// by FFA_VERSION: minor version 0 is the compact form, 1 is [`V1_1`](Version::V1_1), and each greater one is
+/// [`V1_2`](Version::V1_2).
 #[derive(Clone, Copy, Debug, PartialEq, Eq, Hash)]
 #[repr(u32)]
 pub enum Version {
@@ -80,6 +82,20 @@ pub enum Version {
     V1_1 = 0,
     /// The compact form.
     Compact = 1,
+    /// That of FF-A 1.2, whose access descriptors have 32 bytes. Only a machine of [FF-A 1.2](Ffa::V1_2) has such an endpoint: any
+    /// other is refused by [`Cause::Version`](crate::Cause::Version).
+    V1_2 = 2,
+}
+
+impl Version {
+    /// The form of this number, which a manifest has.
+    const fn of(number: u32) -> Version {
+        match number {
+            0 => Version::V1_1,
+            1 => Version::Compact,
+            _ => Version::V1_2,
+        }
+    }
 }
 
 /// What an endpoint takes part in: some of four, joined by `|` or, in a constant, by [`Properties::union`].
@@ -154,9 +170,8 @@ pub struct Endpoint(raw::Endpoint);
 impl fmt::Debug for Endpoint {
     fn fmt(&self, to: &mut fmt::Formatter<'_>) -> fmt::Result {
         let raw::Endpoint { version, properties, uuid, region_count, ref regions } = self.0;
-        let version = if version == Version::V1_1 as u32 { Version::V1_1 } else { Version::Compact };
         to.debug_struct("Endpoint")
-            .field("version", &version)
+            .field("version", &Version::of(version))
             .field("properties", &Properties(properties))
             .field("uuid", &Hexadecimal(u128::from_be_bytes(uuid)))
             .field("regions", &First(regions, region_count, Region))
@@ -239,7 +254,7 @@ pub enum Ffa {
     #[default]
     V1_1 = raw::FFA_1_1,
     /// FF-A 1.2. Memory of the normal world's regions is non-secure, and who retrieves it is told so. All other memory is
-    /// secure, and can't be sent to the normal world.
+    /// secure, and can't be sent to the normal world. An endpoint may have the form [`Version::V1_2`].
     V1_2 = raw::FFA_1_2,
 }
 

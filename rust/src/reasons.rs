@@ -209,9 +209,9 @@ impl fmt::Display for About {
                 }
                 write!(to, "{flaw}: ")?;
                 match flaw {
-                    // Only their number is printed: the first four bytes.
-                    Flaw::HeaderArrayOutside => {
-                        put_bytes(to, first, size.min(4), value.map(|value| value & 0xFFFF_FFFF))
+                    // Of eight bytes only the first four are printed, which are their number.
+                    Flaw::HeaderArrayOutside if size == 8 => {
+                        put_bytes(to, first, 4, value.map(|value| value & 0xFFFF_FFFF))
                     }
                     _ => put_bytes(to, first, size, value),
                 }

@@ -116,7 +116,8 @@ impl std::error::Error for SendError {
 
 impl<R: Ram> Machine<R> {
     /// Stores a descriptor into TX of the endpoint that runs, and makes its call. `tx` is where its TX begins, and
-    /// `form` its version in the manifest.
+    /// `form` its form: its version in the manifest, or on a machine of [FF-A 1.2](crate::Ffa::V1_2) the form that it last asked for
+    /// by FFA_VERSION.
     ///
     /// ```
     /// # use gorseplumb::*;
@@ -143,7 +144,8 @@ impl<R: Ram> Machine<R> {
     /// ```
     ///
     /// # Errors
-    /// [`SendError`]. One that is malformed, or can't be stored, changes nothing.
+    /// [`SendError`]. One that is malformed, or can't be stored, changes nothing. One in another form than the endpoint's is
+    /// refused by [`Flaw::HeaderAccessSize`](crate::Flaw::HeaderAccessSize).
     pub fn send<D>(&mut self, descriptor: &D, tx: u64, form: Version) -> Result<Answer, SendError>
     where
         D: Descriptor + ?Sized,

@@ -5,8 +5,8 @@ mod common;
 use common::machines::{MACHINE, WORLD};
 use common::{example, play, ram, RAM};
 use gorseplumb::{
-    BootError, Cause, CountError, Endpoint, Id, Lent, Machine, Manifest, Properties, Refusal, Region, Rights, Size,
-    Version, MOST_BLOCKS,
+    BootError, Cause, CountError, Endpoint, Ffa, Id, Lent, Machine, Manifest, Properties, Refusal, Region, Rights,
+    Size, Version, MOST_BLOCKS,
 };
 
 /// Stands for all of the text from the first endpoint on.
@@ -89,6 +89,11 @@ fn each_cause_of_numbers() {
     refuses(&machine(partition(1, region(0x20000, 0))), Cause::RegionOutside);
     refuses(&machine(partition(1, region(0x20_0000, 1))), Cause::RegionOutside);
     refuses(&machine(partition(1, region(0x1F000, 2))), Cause::RegionOverlap);
+    let newer = machine(Endpoint::partition([1; 16], Version::V1_2, Properties::ALL, &[region(0x20000, 1)]));
+    refuses(&newer, Cause::Version);
+    let why = Machine::boot(&newer).unwrap_err().to_string();
+    assert!(why.contains("a version is unknown, or is 1.2 on a machine of FF-A 1.1"), "{why}");
+    assert!(Machine::boot(&newer.with_ffa(Ffa::V1_2)).is_ok());
     refuses(&MACHINE.with_tables(504), Cause::TablesOutside);
     refuses(&MACHINE.with_tables(u32::MAX), Cause::TablesOutside);
     refuses(&MACHINE.with_tables(63), Cause::RegionOutside);

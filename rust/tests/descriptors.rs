@@ -6,13 +6,21 @@ mod common;
 use common::top;
 use gorseplumb::Flaw::{self, *};
 use gorseplumb::{
-    registers, About, Check, DataAccess, DescriptorError, Endpoint, Function, Handle, Id, InstructionAccess, Kind,
+    registers, About, Check, DataAccess, DescriptorError, Endpoint, Ffa, Function, Handle, Id, InstructionAccess, Kind,
     Machine, Manifest, Offer, OfferRoom, PageRange, Properties, Receiver, Region, Relinquish, Retrieve,
     RetrieveResponse, Rights, Version, MOST_DESCRIPTOR, MOST_RANGES,
 };
 use std::fs;
 
-const FORMS: [Version; 2] = [Version::V1_1, Version::Compact];
+const FORMS: [Version; 3] = [Version::V1_1, Version::Compact, Version::V1_2];
+/// Each form, and the versions of FF-A of the machines that have it.
+const SERVED: [(Version, Ffa); 5] = [
+    (Version::V1_1, Ffa::V1_1),
+    (Version::Compact, Ffa::V1_1),
+    (Version::V1_1, Ffa::V1_2),
+    (Version::Compact, Ffa::V1_2),
+    (Version::V1_2, Ffa::V1_2),
+];
 const TO_ONE: &[Receiver] = &[Receiver::rw(Id(0x8002))];
 const TO_TWO: &[Receiver] = &[Receiver::rw(Id(0x8002)), Receiver::ro(Id(0x8003))];
 const LEND: Offer = Offer::new(Kind::Lend, Id(0x8001), TO_ONE, &[PageRange::new(0x4002_1000, 1)]);
@@ -102,13 +110,114 @@ fn the_compact_form() {
     );
 }
 
+/// That of FF-A 1.2 has 32 in its header, and 24 zeros behind the offset of the composite.
+#[test]
+fn the_form_of_ffa_1_2() {
+    let told = [
+        (0x00, 0x8001),
+        (0x18, 0x1_0000_0020),
+        (0x20, 0x30),
+        (0x30, 0x0000_0050_0002_8002),
+        (0x50, 0x1_0000_0001),
+        (0x60, 0x4002_1000),
+        (0x68, 1),
+    ];
+    let bytes = LEND.to_bytes(Version::V1_2).unwrap();
+    assert_eq!((words(&bytes), bytes.len()), (told.to_vec(), 0x70));
+    let two = [
+        (0x00, 0x2F_8001),
+        (0x10, 0x1122_3344_5566_7788),
+        (0x18, 0x2_0000_0020),
+        (0x20, 0x30),
+        (0x30, 0x0000_0070_0002_8002),
+        (0x50, 0x0000_0070_0001_8003),
+        (0x70, 0x2_0000_0003),
+        (0x80, 0x4002_1000),
+        (0x88, 2),
+        (0x90, 0x4002_8000),
+        (0x98, 1),
+    ];
+    let bytes = SHARE.to_bytes(Version::V1_2).unwrap();
+    assert_eq!((words(&bytes), bytes.len()), (two.to_vec(), 0xA0));
+    let asked = ASKED.to_bytes(Version::V1_2);
+    let told = vec![(0, 0x18_0000_0001), (8, 2), (16, 4), (24, 0x1_0000_0020), (32, 0x30), (48, 0xA_0003)];
+    assert_eq!((words(&asked), asked.len()), (told, 80));
+}
+
+/// Each of the 24 bytes has to be 0, those of the implementation too.
+#[test]
+fn the_rest_of_an_access_descriptor_of_ffa_1_2() {
+    let (offer, asked) = (SHARE.to_bytes(Version::V1_2).unwrap(), ASKED.to_bytes(Version::V1_2));
+    for at in 8..32 {
+        for index in 0..2 {
+            let mut bytes = offer.to_vec();
+            bytes[48 + 32 * index + at] = 1;
+            let flaw = flaw_of(Offer::read(&bytes, Kind::Share, Version::V1_2, &mut OfferRoom::new()));
+            assert_eq!(flaw, (AccessReserved, index as u32));
+        }
+        let mut bytes = asked.to_vec();
+        bytes[48 + at] = 1;
+        assert_eq!(flaw_of(Retrieve::read(&bytes, Id(3), Version::V1_2)), (RetrieveAccessReserved, 0));
+    }
+}
+
+/// A machine of FF-A 1.2 lets a lend say what memory it is, and not, and an offer name its own kind; one of FF-A 1.1 doesn't.
+#[test]
+fn what_ffa_1_2_allows() {
+    for form in FORMS {
+        let read = |bytes: &[u8], kind, ffa| {
+            let mut room = OfferRoom::new();
+            Offer::read_for(bytes, kind, form, ffa, &mut room).map(|offer| offer.zero).map_err(|error| error.flaw)
+        };
+        let older = |flaw| if form == Version::V1_2 { HeaderAccessSize } else { flaw };
+        let lend_to_two = Offer { kind: Kind::Lend, zero: true, ..SHARE };
+        for (offer, attributes) in [(LEND, 0x2F), (lend_to_two, 0)] {
+            let mut bytes = offer.to_bytes(form).unwrap().to_vec();
+            bytes[2] = attributes;
+            assert_eq!(read(&bytes, Kind::Lend, Ffa::V1_2), Ok(offer.zero));
+            assert_eq!(read(&bytes, Kind::Lend, Ffa::V1_1), Err(older(SendAttributes)));
+            bytes[2] = 1;
+            assert_eq!(read(&bytes, Kind::Lend, Ffa::V1_2), Err(SendAttributes));
+        }
+        for offer in [SHARE, LEND, lend_to_two, DONATE] {
+            let mut bytes = offer.to_bytes(form).unwrap().to_vec();
+            bytes[4] |= (offer.kind as u8) << 3;
+            assert_eq!(read(&bytes, offer.kind, Ffa::V1_2), Ok(offer.zero));
+            assert_eq!(read(&bytes, offer.kind, Ffa::V1_1), Err(older(SendFlags)));
+            let other = offer.kind as u8 % 3 + 1;
+            bytes[4] = bytes[4] & 7 | other << 3;
+            assert_eq!(read(&bytes, offer.kind, Ffa::V1_2), Err(SendFlags));
+        }
+        let mut share = SHARE.to_bytes(form).unwrap().to_vec();
+        (share[2], share[4]) = (0, 9);
+        assert_eq!(read(&share, Kind::Share, Ffa::V1_2), Err(SendAttributes));
+        share[2] = 0x2F;
+        assert_eq!(read(&share, Kind::Share, Ffa::V1_2), Err(SendFlags));
+    }
+}
+
+/// A machine of FF-A 1.1 has no endpoint of the form of FF-A 1.2.
+#[test]
+fn no_form_of_ffa_1_2_for_ffa_1_1() {
+    let bytes = LEND.to_bytes(Version::V1_2).unwrap();
+    let mut room = OfferRoom::new();
+    let found = Offer::read_for(&bytes, Kind::Lend, Version::V1_2, Ffa::V1_1, &mut room);
+    assert_eq!(
+        found.unwrap_err().to_string(),
+        "the access descriptor size field is not 16, 32 in FF-A 1.2, or 0 in the compact form"
+    );
+}
+
 #[test]
 fn what_is_written_is_read() {
-    for (form, other) in FORMS.into_iter().zip([Version::Compact, Version::V1_1]) {
+    for form in FORMS {
         for offer in [LEND, SHARE, DONATE] {
             let bytes = offer.to_bytes(form).unwrap();
             assert_eq!(Offer::read(&bytes, offer.kind, form, &mut OfferRoom::new()), Ok(offer));
-            assert!(Offer::read(&bytes, offer.kind, other, &mut OfferRoom::new()).is_err());
+            for other in FORMS.into_iter().filter(|other| *other != form) {
+                let flaw = flaw_of(Offer::read(&bytes, offer.kind, other, &mut OfferRoom::new()));
+                assert_eq!(flaw, (HeaderAccessSize, 0));
+            }
         }
         for kind in [None, Some(Kind::Share), Some(Kind::Lend), Some(Kind::Donate)] {
             for data in [DataAccess::Unspecified, DataAccess::Ro, DataAccess::Rw] {
@@ -132,9 +241,11 @@ fn response(form: Version) -> Vec<u8> {
     let front = [1, 0, 0x2F, 0, 0x11, 0, 0, 0, 2, 0, 0, 0, 0, 0, 0, 0, 4, 0, 0, 0, 0, 0, 0, 0];
     let (told, composite) = match form {
         Version::V1_1 => (&[16, 0, 0, 0, 1, 0, 0, 0, 48, 0, 0, 0, 0, 0, 0, 0, 0, 0, 0, 0, 0, 0, 0, 0][..], 64),
+        Version::V1_2 => (&[32, 0, 0, 0, 1, 0, 0, 0, 48, 0, 0, 0, 0, 0, 0, 0, 0, 0, 0, 0, 0, 0, 0, 0][..], 80),
         Version::Compact => (&[0, 0, 0, 0, 1, 0, 0, 0][..], 48),
     };
-    let access = [3, 0, 0b0110, 0, composite, 0, 0, 0, 0, 0, 0, 0, 0, 0, 0, 0];
+    let mut access = vec![3, 0, 0b0110, 0, composite, 0, 0, 0, 0, 0, 0, 0, 0, 0, 0, 0];
+    access.resize(if form == Version::V1_2 { 32 } else { 16 }, 0);
     let pages = [3, 0, 0, 0, 2, 0, 0, 0, 0, 0, 0, 0, 0, 0, 0, 0];
     let ranges = [0, 0x10, 0, 0, 0, 0, 0, 0, 1, 0, 0, 0, 0, 0, 0, 0, 0, 0x40, 0, 0, 1, 0, 0, 0, 2, 0, 0, 0, 0, 0, 0, 0];
     [&front[..], told, &access, &pages, &ranges, b"rest"].concat()
@@ -153,7 +264,8 @@ fn responses() {
         assert_eq!(told.ranges(), [PageRange::new(4096, 1), PageRange::new(0x1_0000_4000, 2)]);
         let mut bytes = response(form);
         bytes[2] = 0x6F;
-        assert!(!told.non_secure && RetrieveResponse::read(&bytes, form).unwrap().non_secure);
+        let is_told = form != Version::Compact;
+        assert!(!told.non_secure && RetrieveResponse::read(&bytes, form).unwrap().non_secure == is_told);
     }
 }
 
@@ -235,8 +347,9 @@ fn the_most_that_there_may_be() {
     let mut ranges: Vec<PageRange> = (1..64).map(|place| PageRange::new(8192 * place, 1)).collect();
     ranges.push(PageRange::new((1 << 48) - 4096, 1));
     assert_eq!(ranges.len(), MOST_RANGES);
-    let bytes = Offer { receivers: &four, ranges: &ranges, ..SHARE }.to_bytes(Version::V1_1).unwrap();
-    assert_eq!(bytes.len(), MOST_DESCRIPTOR);
+    let share = Offer { receivers: &four, ranges: &ranges, ..SHARE };
+    let sizes = FORMS.map(|form| share.to_bytes(form).unwrap().len());
+    assert_eq!((sizes, MOST_DESCRIPTOR), ([1152, 1136, 1216], 1216));
     let whole = [PageRange::new(0, u32::MAX)];
     assert_eq!(Offer { ranges: &whole, ..LEND }.to_bytes(Version::Compact).map(|bytes| bytes.len()), Ok(80));
 }
@@ -295,7 +408,7 @@ fn offers_that_are_cut() {
         let good = SHARE.to_bytes(form).unwrap();
         for size in 0..good.len() {
             let (flaw, _) = flaw_of(Offer::read(&good[..size], Kind::Share, form, &mut OfferRoom::new()));
-            let is_in_header = size < if form == Version::V1_1 { 48 } else { 32 };
+            let is_in_header = size < if form == Version::Compact { 32 } else { 48 };
             assert_eq!(flaw == HeaderShort, is_in_header, "{size}");
         }
     }
@@ -332,12 +445,12 @@ fn the_first_condition_that_others_break() {
 
 const TX: u64 = 0x4001_E000;
 
-/// A machine whose normal world has this version, and its buffers.
-fn machine(form: Version) -> Machine {
+/// A machine of this version of FF-A, whose normal world has this form, and its buffers.
+fn machine(form: Version, ffa: Ffa) -> Machine {
     const RAM: u32 = common::RAM as u32;
     let region = Region::new(RAM + 0x10000, 16, Rights::Rw);
     let manifest = Manifest::new(RAM, 1, &[Endpoint::normal_world(form, Properties::NONE, &[region])]);
-    let mut machine = Machine::boot(&manifest).unwrap();
+    let mut machine = Machine::boot(&manifest.with_ffa(ffa)).unwrap();
     machine.call(&Function::RxtxMap.with([TX, TX + 0x1000, 1])).done().unwrap();
     machine
 }
@@ -370,7 +483,7 @@ fn changed(good: &[u8], state: &mut u64) -> Vec<u8> {
     for _ in 0..next(state) % 4 {
         let at = next(state) as usize % bytes.len();
         let near = bytes[at] ^ 1 << (next(state) % 8);
-        bytes[at] = [near, next(state) as u8, 0, 1, 2, 16, bytes[at / 2]][next(state) as usize % 7];
+        bytes[at] = [near, next(state) as u8, 0, 1, 2, 16, 32, 0x2F, bytes[at / 2]][next(state) as usize % 9];
     }
     if next(state) % 8 == 0 {
         bytes.truncate(next(state) as usize % (bytes.len() + 1));
@@ -382,14 +495,16 @@ fn changed(good: &[u8], state: &mut u64) -> Vec<u8> {
 fn a_machine_tells_the_same_of_changed_bytes() {
     let mut state = 0x9E37_79B9_7F4A_7C15;
     let mut seen = Vec::new();
-    for form in FORMS {
-        let mut machine = machine(form);
+    for (form, ffa) in SERVED {
+        let mut machine = machine(form, ffa);
         for round in 0..20_000 {
             let offer = [LEND, SHARE, DONATE][round % 3];
-            let bytes = changed(&offer.to_bytes(form).unwrap(), &mut state);
-            let found = Offer::read(&bytes, offer.kind, form, &mut OfferRoom::new()).err();
+            let mut bytes = offer.to_bytes(form).unwrap().to_vec();
+            bytes[4] |= (next(&mut state) % 4 * (next(&mut state) % 2)) as u8 * 8; // the kind, or another
+            let bytes = changed(&bytes, &mut state);
+            let found = Offer::read_for(&bytes, offer.kind, form, ffa, &mut OfferRoom::new()).err();
             let found = found.map(|error| (error.flaw, error.index));
-            assert_eq!(found, told(&mut machine, offer.kind.function(), &bytes), "{form:?} {bytes:X?}");
+            assert_eq!(found, told(&mut machine, offer.kind.function(), &bytes), "{form:?} {ffa:?} {bytes:X?}");
             seen.extend(found.map(|(flaw, _)| flaw));
 
             let asked = Retrieve { receiver: Receiver::rw(Id(0)), ..ASKED };
@@ -415,17 +530,19 @@ fn laid_out(offer: &Offer, form: Version) -> Vec<u8> {
     let is_open = offer.kind == Kind::Donate || (offer.kind == Kind::Lend && receivers == 1);
     let told = match form {
         Version::V1_1 => [&16_u32.to_le_bytes()[..], &receivers.to_le_bytes(), &[48], &[0; 15]].concat(),
+        Version::V1_2 => [&32_u32.to_le_bytes()[..], &receivers.to_le_bytes(), &[48], &[0; 15]].concat(),
         Version::Compact => [[0; 4], receivers.to_le_bytes()].concat(),
     };
     let tag = offer.tag.to_le_bytes();
     let mut bytes = [&offer.sender.0.to_le_bytes()[..], &[if is_open { 0 } else { 0x2F }, 0]].concat();
     bytes.extend([&u32::from(offer.zero).to_le_bytes()[..], &[0; 8], &tag, &told].concat());
-    let composite = bytes.len() as u32 + 16 * receivers;
+    let size = if form == Version::V1_2 { 32 } else { 16 };
+    let composite = bytes.len() as u32 + size * receivers;
     for Receiver { endpoint, data, instructions } in offer.receivers {
         bytes.extend(endpoint.0.to_le_bytes());
         bytes.extend([*data as u8 + 4 * *instructions as u8, 0]);
         bytes.extend(composite.to_le_bytes());
-        bytes.extend([0; 8]);
+        bytes.resize(bytes.len() + size as usize - 8, 0);
     }
     let total = offer.ranges.iter().fold(0, |total: u32, range| total.wrapping_add(range.pages));
     bytes.extend([&total.to_le_bytes()[..], &ranges.to_le_bytes(), &[0; 8]].concat());
@@ -485,8 +602,8 @@ fn same_of_values(machine: &mut Machine, offer: &Offer, form: Version) -> Option
 fn a_machine_tells_the_same_of_values() {
     let mut state = 0x1234_5678_9ABC_DEF1;
     let mut seen = Vec::new();
-    for form in FORMS {
-        let mut machine = machine(form);
+    for (form, ffa) in SERVED {
+        let mut machine = machine(form, ffa);
         for round in 0..20_000 {
             let kind = [Kind::Share, Kind::Lend, Kind::Donate][round % 3];
             let (receivers, ranges) = (some_receivers(kind, &mut state), some_ranges(&mut state));

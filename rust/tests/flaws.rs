@@ -63,7 +63,7 @@ const FLAWS: [(Flaw, &Descriptor, u64, Words); 42] = [
     (HeaderArrayInHeader, &LEND, 0x60, &[(0x20, 0x20)]),
     (HeaderArrayOutside, &LEND, 0x60, &[(0x20, 0x60)]),
     (HeaderReserved, &LEND, 0x60, &[(0x28, 1)]),
-    (SendAttributes, &LEND, 0x60, &[(0x00, 0x2F_0000)]),
+    (SendAttributes, &LEND, 0x60, &[(0x00, 0x1_0000)]),
     (SendFlags, &LEND, 0x60, &[(0x00, 0x2_0000_0000)]),
     (SendHandle, &LEND, 0x60, &[(0x08, 1)]),
     (SendNoReceiver, &TO_TWO, 0x70, &[(0x18, 0x10)]),

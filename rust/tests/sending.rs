@@ -13,9 +13,17 @@ const PAGE: u64 = 0x4001_0000;
 const WORLD: Id = Id::NORMAL_WORLD;
 const FIRST: Id = Id(0x8001);
 const V1_1: Version = Version::V1_1;
+const V1_2: Version = Version::V1_2;
+const FORMS: [Version; 3] = [V1_1, Version::Compact, V1_2];
 
-/// A machine in which each of two endpoints has its version and its buffers. The normal world runs.
+/// A machine in which each of two endpoints has its version and its buffers. The normal world runs. It serves FF-A 1.2 if an
+/// endpoint needs that.
 fn machine(world: Version, partition: Version) -> Machine {
+    let ffa = if [world, partition].contains(&V1_2) { Ffa::V1_2 } else { Ffa::V1_1 };
+    machine_of(ffa, world, partition)
+}
+
+fn machine_of(ffa: Ffa, world: Version, partition: Version) -> Machine {
     const BASE: u32 = common::RAM as u32;
     let manifest = Manifest::new(
         BASE,
@@ -25,7 +33,7 @@ fn machine(world: Version, partition: Version) -> Machine {
             Endpoint::partition([1; 16], partition, Properties::NONE, &[Region::new(BASE + 0x20000, 16, Rights::Rw)]),
         ],
     );
-    let mut machine = Machine::boot(&manifest).unwrap();
+    let mut machine = Machine::boot(&manifest.with_ffa(ffa)).unwrap();
     run(&mut machine);
     map(&mut machine, TX_1);
     wait(&mut machine);
@@ -76,9 +84,7 @@ fn ram(machine: &Machine) -> Vec<u8> {
 
 #[test]
 fn a_share_up_to_its_reclaim() {
-    for (world, partition) in
-        [(V1_1, V1_1), (V1_1, Version::Compact), (Version::Compact, V1_1), (Version::Compact, Version::Compact)]
-    {
+    for (world, partition) in FORMS.into_iter().flat_map(|world| FORMS.map(|partition| (world, partition))) {
         let mut machine = machine(world, partition);
         machine.store(PAGE, Size::B1, 42).unwrap();
         let (to, ranges) = ([Receiver::ro(FIRST)], [PageRange::new(PAGE + 0x3000, 1), PageRange::new(PAGE, 2)]);
@@ -93,6 +99,7 @@ fn a_share_up_to_its_reclaim() {
         let holds = Receiver { instructions: InstructionAccess::Nx, ..Receiver::ro(FIRST) };
         assert_eq!((told.kind, told.sender, told.handle, told.tag), (Kind::Share, WORLD, handle, 7));
         assert_eq!((told.receiver, told.ranges(), told.zeroed), (holds, &ranges[..], false));
+        assert_eq!(told.non_secure, [world, partition].contains(&V1_2) && partition != Version::Compact);
         assert_eq!(machine.load(PAGE, Size::B1), Ok(42));
         assert_eq!(machine.store(PAGE, Size::B1, 1), Err(Fault::Permission));
         machine.send(&Relinquish::new(handle, FIRST), TX_1, partition).unwrap();
@@ -122,6 +129,70 @@ fn a_lend_that_is_zeroed() {
     wait(&mut machine);
     reclaim(&mut machine, handle).done().unwrap();
     assert_eq!(machine.load(PAGE, Size::B1), Ok(0));
+}
+
+/// An endpoint changes its form by FFA_VERSION before it maps its buffers, and is told 1.2; a descriptor in the form that it had
+/// is then none.
+#[test]
+fn the_form_of_a_version_that_was_asked_for() {
+    let (to, ranges) = ([Receiver::rw(FIRST)], [PageRange::new(PAGE, 1)]);
+    let lend = Offer::new(Kind::Lend, WORLD, &to, &ranges);
+    let versions = [(0x1_0000, Version::Compact), (0x1_0001, V1_1), (0x1_0002, V1_2), (0x1_0003, V1_2)];
+    for (version, form) in versions {
+        for before in FORMS {
+            let mut machine = machine_of(Ffa::V1_2, before, V1_1);
+            machine.call(&Function::RxtxUnmap.with([])).done().unwrap();
+            assert_eq!(machine.call(&Function::Version.with([version])).registers().unwrap()[0], 0x1_0002);
+            map(&mut machine, TX);
+            for other in FORMS.into_iter().filter(|other| *other != form) {
+                assert_eq!(flaw_of(machine.send(&lend, TX, other)), Some(Flaw::HeaderAccessSize));
+            }
+            assert_eq!(machine.send(&lend, TX, form).unwrap().handle(), Some(Handle(1)));
+        }
+    }
+}
+
+/// The flaw for which a descriptor is refused.
+fn flaw_of(sent: Result<Answer, SendError>) -> Option<Flaw> {
+    match sent {
+        Err(SendError::Refused(CallError {
+            reason: Some(CallReason { about: Some(About::Field { flaw, .. }), .. }),
+            ..
+        })) => Some(flaw),
+        _ => None,
+    }
+}
+
+/// A machine of FF-A 1.1 has no endpoint with the form of FF-A 1.2, keeps none for its callers, and says why it refuses it.
+#[test]
+fn the_form_of_ffa_1_2_on_a_machine_of_ffa_1_1() {
+    let mut machine = machine(V1_1, Version::Compact);
+    machine.call(&Function::RxtxUnmap.with([])).done().unwrap();
+    assert_eq!(machine.call(&Function::Version.with([0x1_0002])).registers().unwrap()[0], 0x1_0001);
+    map(&mut machine, TX);
+    let (to, ranges) = ([Receiver::rw(FIRST)], [PageRange::new(PAGE, 1)]);
+    let refused = machine.send(&Offer::new(Kind::Lend, WORLD, &to, &ranges), TX, V1_2).unwrap_err();
+    assert_eq!(
+        refused.to_string(),
+        "FFA_MEM_LEND is refused: INVALID_PARAMETERS: check 6: the bytes in TX are not a descriptor of this call: the access \
+         descriptor size field is not 16, 32 in FF-A 1.2, or 0 in the compact form: bytes 18 to 1B are 00000020, and must be \
+         00000010, because 0000 uses version 1.1"
+    );
+}
+
+/// The program's words for a descriptor in the form of FF-A 1.1 of a caller that has that of FF-A 1.2.
+#[test]
+fn the_hint_of_ffa_1_2() {
+    let mut machine = machine(V1_2, V1_1);
+    let (to, ranges) = ([Receiver::rw(FIRST)], [PageRange::new(PAGE, 1)]);
+    let refused = machine.send(&Offer::new(Kind::Lend, WORLD, &to, &ranges), TX, V1_1).unwrap_err();
+    let said = "bytes 18 to 1B are 00000010, and must be 00000020, because 0000 uses version 1.2";
+    assert!(refused.to_string().ends_with(said), "{refused}");
+    let hint = match refused {
+        SendError::Refused(CallError { reason: Some(reason), .. }) => reason.hint,
+        _ => None,
+    };
+    assert_eq!(hint, Some(Hint::Form { caller: WORLD, form: V1_2 }));
 }
 
 #[test]

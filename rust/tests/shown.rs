@@ -132,6 +132,7 @@ fn hints() {
     shows(Hint::Asked { asked: Rights::Rw, most: Rights::Ro }, "Asked { asked: Rw, most: Ro }");
     shows([Hint::Room(4096), Hint::Wanted(0xAB), Hint::Outside(0xAB)], "[Room(4096), Wanted(0xAB), Outside(0xAB)]");
     shows(Hint::Form { caller: endpoint, form: Version::Compact }, "Form { caller: Id(0x8001), form: Compact }");
+    shows(Hint::Form { caller: endpoint, form: Version::V1_2 }, "Form { caller: Id(0x8001), form: V1_2 }");
     shows(Hint::Word { place: 12, value: 0xAB }, "Word { place: 12, value: 0xAB }");
     shows(Hint::Message { offset: 20, size: 1, room: 4096 }, "Message { offset: 20, size: 1, room: 4096 }");
     shows([Hint::Holder(endpoint), Hint::Request(endpoint)], "[Holder(Id(0x8001)), Request(Id(0x8001))]");
