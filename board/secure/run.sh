@@ -33,7 +33,7 @@ Runs; without RUN all except `measure`:
 
   plain    TF-A without a change. A program calls three partitions through the dispatcher, which reports version 1.0.
            A timer stops a partition
-  version  the same, but the dispatcher asks the library for the version, which is 1.1
+  version  the same, but the dispatcher asks the library for the version, which is 1.2
   two      as version, with two processors that both call and have timers; the second is turned off and on
   tsp      TF-A's own test partition (TSP) as the only partition
   small    a machine in QEMU's secure memory, which the normal world cannot reach
@@ -191,7 +191,8 @@ try_program() {
 try_linux() {
     local lacks redistributors found processors=$2 limit=1800
     redistributors=$(printf %X $((0x20000 * $2)))
-    build_tree smc "$2" ffa_try.table_at=0x48000000 ffa_try.partition_at=0x$first_at ffa_try.firmware_at=0x0E100000 ffa_try.device_at=0x09040000 "${@:4}"
+    build_tree smc "$2" ffa_try.lends_to_both=1 ffa_try.table_at=0x48000000 ffa_try.partition_at=0x$first_at \
+        ffa_try.firmware_at=0x0E100000 ffa_try.device_at=0x09040000 "${@:4}"
     with_three_partitions
     add_image "$linux/Image" $image_at
     add_image "$linux/initramfs" $initramfs_at

@@ -29,6 +29,9 @@ extern struct ffa_device second;
 /* What the core takes: ranges of one transaction, and open transactions of a sender. */
 extern unsigned int ranges, open;
 
+/* Whether the core takes a lend to both without attributes, as a machine of FF-A 1.2 does. */
+extern bool lends_to_both;
+
 /* Whether Linux is told whom to run: what it notifies the partner of comes back then. */
 extern bool schedules;
 

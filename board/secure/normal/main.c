@@ -58,7 +58,7 @@ static void list_partitions(void) {
 void try_setup(void) {
     uint64_t *x = ask(FFA_VERSION, 0x10001, 0, 0);
     say("FFA_VERSION", x);
-    want("the version is 1.1, or 1.0 where the dispatcher says so", (uint32_t)x[0] == 0x10001 || (uint32_t)x[0] == 0x10000);
+    want("the version is 1.2, or 1.0 if the dispatcher answers", (uint32_t)x[0] == 0x10002 || (uint32_t)x[0] == 0x10000);
     x = ask(FFA_ID_GET, 0, 0, 0);
     say("FFA_ID_GET", x);
     want("the normal world is 0", is_success(x) && x[2] == 0);
