@@ -2,6 +2,7 @@
 """The worked rows of tests/rows: the library answers each line as its guard wants, on the heap's RAM and on lent RAM."""
 from __future__ import annotations
 
+import re
 from dataclasses import replace
 from importlib.machinery import SourceFileLoader
 from importlib.util import module_from_spec, spec_from_loader
@@ -10,7 +11,7 @@ from types import ModuleType
 import pytest
 from conftest import TOP
 
-from gorseplumb import Ffa, Machine, Manifest, Ram, play
+from gorseplumb import Ffa, Form, Machine, Manifest, Ram, play
 
 
 def play_rows() -> ModuleType:
@@ -46,6 +47,15 @@ def whole(guard: str) -> str:
     return " ".join([word, runner.zfill(4), *(it.zfill(16) for it in x + ["0"] * (8 - len(x)))])
 
 
+def manifest_of(name: str, ffa: Ffa) -> Manifest:
+    """The manifest of a row. The library reads a text for FF-A 1.1, so an endpoint of 1.2 gets its form after that."""
+    text = (TOP / "tests" / "rows" / name).read_text(encoding="utf-8")
+    read = Manifest.read(text.replace('"1.2"', '"1.1"'))
+    versions = re.findall('^version = "(.*)"$', text, re.M)
+    endpoints = [replace(it, form=Form.FFA_1_2) if version == "1.2" else it for it, version in zip(read.endpoints, versions)]
+    return replace(read, endpoints=endpoints, ffa=ffa)
+
+
 def wanted_of(lines: list[str]) -> list[str]:
     """What the guards of a row want of the library."""
     served = {} if SCRIPT.named(lines, "with") else SERVED
@@ -67,6 +77,5 @@ def test_a_row_gives_what_it_wants(row: str, blocks: int) -> None:
     wanted = wanted_of(lines)
     ffa = Ffa.V1_2 if "--ffa" in SCRIPT.named(lines, "with") else Ffa.V1_1
     for name in SCRIPT.named(lines, "on"):
-        manifest = replace(Manifest.read(TOP / "tests" / "rows" / name), ffa=ffa)
-        with Machine(manifest, Ram(blocks) if blocks else None) as machine:
+        with Machine(manifest_of(name, ffa), Ram(blocks) if blocks else None) as machine:
             assert list(play(machine, lines)) == wanted
