@@ -20,7 +20,7 @@ use Rattle.ffa_model.specs.declared.rights.Data.TheVariants.{Ro, Rw}
 use Rattle.ffa_model.specs.declared.rights.Rights.{Rights}
 use Rattle.ffa_model.specs.Manifest.{are_apart, are_counted, are_identified, is_accepted, has_tables, is_from_to, is_placed, is_ram_base, is_ram_size, regions_of}
 use Rattle.ffa_manifest.specs.Document.{Parts}
-use Rattle.ffa_manifest.specs.Parts.{are_versions, endpoint_tests, first_cause, tests_of, tests_of_each}
+use Rattle.ffa_manifest.specs.Parts.{have_versions, endpoint_tests, first_cause, tests_of, tests_of_each}
 use Rattle.ffa_manifest.specs.Reading.{◌>>=◌, or_cause}
 use Rattle.ffa_manifest.specs.declared.error.ManifestError.{ManifestError}
 use Rattle.ffa_manifest.specs.declared.error.ManifestError.TheVariants.{EndpointCount, RegionCount, Version, WrongKind}
@@ -111,7 +111,7 @@ parts-again parts small all =
 -- ---- an accepted manifest's parts make a machine
 
 module _ (parts : Parts) (good : is_accepted parts.ram_base parts.tables parts.ram_blocks parts.endpoints ≡ true)
-    (versioned : are_versions parts.ffa parts.endpoints ≡ true) where
+    (versioned : have_versions parts.ffa parts.endpoints ≡ true) where
   abbrev es : List Endpoint
   es = parts.endpoints
 

@@ -13,7 +13,7 @@ use Rattle.ffa_model.specs.Manifest.{is_placed, regions_of}
 use Rattle.ffa_manifest.specs.Document.{Parts, machine, machine_of, ram_base_at, ram_blocks_at, top_keys}
 use Rattle.ffa_manifest.specs.Endpoints.{endpoint_items, endpoint_of, endpoints_from, next_endpoint, normal_world, normal_world_keys, normal_world_properties, partition, partition_keys, properties_at, uuid_at, version_at, version_of}
 use Rattle.ffa_manifest.specs.Keys.{text_at}
-use Rattle.ffa_manifest.specs.Parts.{are_versions, is_version}
+use Rattle.ffa_manifest.specs.Parts.{have_versions, is_version}
 use Rattle.ffa_manifest.specs.Reading.{item_count}
 use Rattle.ffa_manifest.specs.Regions.{regions_at}
 use Rattle.ffa_manifest.specs.declared.error.ManifestError.{ManifestError}
@@ -56,7 +56,7 @@ with-version : (ffa : Ffa) (e : Endpoint) (version : versions.Version) (uuid : L
 with-version ffa e version uuid properties regions made known = ap (λ (x : Endpoint). is_version ffa x.version) (sym made) ∙ known
 
 -- (what TOML says has no type here, since this crate doesn't use its reader: so all of it is one lemma)
-pub text-versions : (ffa : Ffa) (text : List ℕ) (parts : Parts) → machine_of ffa text ≡ Ok parts → are_versions parts.ffa parts.endpoints ≡ true
+pub text-versions : (ffa : Ffa) (text : List ℕ) (parts : Parts) → machine_of ffa text ≡ Ok parts → have_versions parts.ffa parts.endpoints ≡ true
 unfolding machine_of machine endpoints_from next_endpoint normal_world partition version_at
 text-versions ffa text parts h =
     let (ms, _, h0) = bind_ok _ (machine ffa) parts h in
@@ -66,8 +66,8 @@ text-versions ffa text parts h =
     let (ds, _, h4) = bind_ok (endpoint_items ms) _ parts h3 in
     let placed : Region → Bool = is_placed base 0 blocks (item_count ds) in
     let (endpoints, read, h5) = bind_ok (endpoints_from ffa placed ds) _ parts h4 in
-    let all : are_versions ffa endpoints ≡ true =
-    read_each-keeps (λ es. are_versions ffa es ≡ true) (next_endpoint ffa placed) (λ before d e so_far is.
+    let all : have_versions ffa endpoints ≡ true =
+    read_each-keeps (λ es. have_versions ffa es ≡ true) (next_endpoint ffa placed) (λ before d e so_far is.
     let (its, _, chosen) = bind_ok _ (λ x. if length before == 0 then normal_world ffa placed x else partition ffa placed before x) e is in
     let known : is_version ffa e.version ≡ true =
     either-way (length before == 0) (normal_world ffa placed its) (partition ffa placed before its) e (is_version ffa e.version ≡ true) chosen
@@ -89,4 +89,4 @@ text-versions ffa text parts h =
     rw (list_all-append (λ (x : Endpoint). is_version ffa x.version) before (e ∷ []), so_far, known) refl) [] ds endpoints refl read in
     let made : Parts = record { ram_base = base; ram_blocks = blocks; tables = 0; endpoints = endpoints; ffa = ffa } in
     let is : made ≡ parts = same-ok made parts h5 in
-    ap (λ (x : Parts). are_versions x.ffa x.endpoints) (sym is) ∙ all
+    ap (λ (x : Parts). have_versions x.ffa x.endpoints) (sym is) ∙ all
