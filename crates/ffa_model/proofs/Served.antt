@@ -17,7 +17,8 @@ use Rattle.ffa_model.specs.declared.schedule.Status.{Status}
 use Rattle.ffa_model.specs.declared.schedule.Status.TheVariants.{Waiting}
 use Rattle.ffa_model.specs.Bits.{high_half, word_of_halves}
 use Rattle.ffa_model.specs.Calls.{Service, first_failure, success}
-use Rattle.ffa_model.specs.MemoryRetrieve.{retrieve_read}
+use Rattle.ffa_model.specs.declared.call.Transfer.{Transfer}
+use Rattle.ffa_model.specs.HypervisorRetrieve.{asks_back, retrieve_by}
 use Rattle.ffa_model.specs.MemoryReturn.{relinquish_read}
 use Rattle.ffa_model.specs.MemorySend.{send_read}
 use Rattle.ffa_model.specs.Refusals.{is_error, passes_no_error}
@@ -53,6 +54,10 @@ feature-no-error : (properties : ℕ) (served : Bool) → first_failure ((served
 feature-no-error properties true none = refl
 feature-no-error properties false none = absurd (none-some NotSupported (sym none))
 
+retrieve-no-error : (s : State) (x : Transfer) (back : Bool) → is_error (retrieve_by back s x).reply ≡ false
+retrieve-no-error s x true = refl
+retrieve-no-error s x false = refl
+
 -- the bitmap of FFA_NOTIFICATION_SET has 64 bits
 abbrev pub FitsBitmap : Call → Type 0
 FitsBitmap (NotificationSet its) = its.bitmap < 2 ^ 64
@@ -75,16 +80,17 @@ IsServed f row =
     × ((s : State) (w x : ℕ → ℕ) → passes_no_error (f.call w x) ≡ true → HasNoError (service s (f.call w x)))
     × ((w x : ℕ → ℕ) → ((i : ℕ) → w i < 2 ^ 32) → FitsBitmap (f.call w x))
 
-abbrev AreServed : List Function → List Row → Type 0
-AreServed [] rs = Unit {0}
-AreServed (f ∷ fs) [] = Unit {0}
-AreServed (f ∷ fs) (row ∷ rs) = IsServed f row × AreServed fs rs
+-- what is so of each function and its row
+abbrev pub AreAll : (Function → Row → Type 0) → List Function → List Row → Type 0
+AreAll Q [] rs = Unit {0}
+AreAll Q (f ∷ fs) [] = Unit {0}
+AreAll Q (f ∷ fs) (row ∷ rs) = Q f row × AreAll Q fs rs
 
 infixr 20 ◌▸◌
-◌▸◌ : {A B : Type 0} → A → B → A × B
+pub ◌▸◌ : {A B : Type 0} → A → B → A × B
 a ▸ b = (a, b)
 
-functions-served : AreServed functions rows
+functions-served : AreAll IsServed functions rows
 functions-served =
     (λ w x form. refl, λ w x. refl, λ s w x. (0, refl), λ s w x named none. answer-no-error s.ffa s (w 1), λ w x narrow. tt)
     ▸ (λ w x form. refl, λ w x. refl, λ s w x. (0, refl), λ s w x named none. feature-no-error _ (is_function (w 1)) none, λ w x narrow. tt)
@@ -101,7 +107,7 @@ functions-served =
     ▸ (λ w x form. refl, λ w x. refl, λ s w x. send_listed (scene_of s) s.runner (transfer w x) (send_read s Donate (w 1)), λ s w x named none. refl, λ w x narrow. tt)
     ▸ (λ w x form. refl, λ w x. refl, λ s w x. send_listed (scene_of s) s.runner (transfer w x) (send_read s Lend (w 1)), λ s w x named none. refl, λ w x narrow. tt)
     ▸ (λ w x form. refl, λ w x. refl, λ s w x. send_listed (scene_of s) s.runner (transfer w x) (send_read s Share (w 1)), λ s w x named none. refl, λ w x narrow. tt)
-    ▸ (λ w x form. refl, λ w x. refl, λ s w x. retrieve_listed (scene_of s) s.runner (transfer w x) (retrieve_read s (w 1)), λ s w x named none. refl, λ w x narrow. tt)
+    ▸ (λ w x form. refl, λ w x. refl, λ s w x. retrieve_listed s (transfer w x) (asks_back s (transfer w x)), λ s w x named none. retrieve-no-error s (transfer w x) (asks_back s (transfer w x)), λ w x narrow. tt)
     ▸ (λ w x form. refl, λ w x. refl, λ s w x. relinquish_listed (buffers_of s s.runner) (open_of s) s.runner (relinquish_read s), λ s w x named none. refl, λ w x narrow. tt)
     ▸ (λ w x form. refl, λ w x. refl, λ s w x. (0, refl), λ s w x named none. refl, λ w x narrow. tt)
     ▸ (λ w x form. refl, λ w x. refl, λ s w x. (0, refl), λ s w x named none. refl, λ w x narrow. tt)
@@ -131,8 +137,9 @@ rows-agree : map key_in rows ≡ map key_of functions
 rows-agree = refl
 
 -- what holds of each function with its row, and of none, holds of those that are found
-module _ (w0 : ℕ) (P : Option Function → Option Row → Type 0) (none : P None None) (some : (f : Function) (row : Row) → IsServed f row → is_form_of w0 f ≡ true → P (Some f) (Some row)) where
-  found-in : (fs : List Function) (rs : List Row) → map key_in rs ≡ map key_of fs → AreServed fs rs → P (find (is_form_of w0) fs) (find (is_row_of w0) rs)
+module _ (Q : Function → Row → Type 0) (w0 : ℕ) (P : Option Function → Option Row → Type 0) (none : P None None)
+    (some : (f : Function) (row : Row) → Q f row → is_form_of w0 f ≡ true → P (Some f) (Some row)) where
+  found-in : (fs : List Function) (rs : List Row) → map key_in rs ≡ map key_of fs → AreAll Q fs rs → P (find (is_form_of w0) fs) (find (is_row_of w0) rs)
   found-in [] [] same are = none
   found-in [] (row ∷ rs) same are = absurd cc
   found-in (f ∷ fs) [] same are = absurd cc
@@ -145,9 +152,13 @@ module _ (w0 : ℕ) (P : Option Function → Option Row → Type 0) (none : P No
         | false ↦ λ other form. rw other (found-in fs rs others are.1)
       ] (ap (is_key_of w0) key) refl
 
-  found : P (function_of w0) (row_of w0)
+  pub found-all : AreAll Q functions rows → P (function_of w0) (row_of w0)
   unfolding row_of
-  found = found-in functions rows rows-agree functions-served
+  found-all = found-in functions rows rows-agree
+
+found : (w0 : ℕ) (P : Option Function → Option Row → Type 0) → P None None
+    → ((f : Function) (row : Row) → IsServed f row → is_form_of w0 f ≡ true → P (Some f) (Some row)) → P (function_of w0) (row_of w0)
+found w0 P none some = found-all IsServed w0 P none some functions-served
 
 -- no call passes on what is seen as FFA_ERROR
 pub decode-named : (x : List ℕ) → passes_no_error (decode x) ≡ true

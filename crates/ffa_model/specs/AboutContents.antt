@@ -10,8 +10,10 @@ use Rattle.ffa_model.specs.declared.descriptor.RelinquishDesc.{RelinquishDesc}
 use Rattle.ffa_model.specs.declared.descriptor.RetrieveDesc.{RetrieveDesc}
 use Rattle.ffa_model.specs.declared.endpoint.Version.TheVariants.{V1_1}
 use Rattle.ffa_model.specs.declared.flaw.Flaw.{Flaw}
+use Rattle.ffa_model.specs.declared.flaw.Flaw.TheVariants.{Retrieve}
+use Rattle.ffa_model.specs.declared.flaw.RetrieveFlaw.TheVariants.{NotZero}
 use Rattle.ffa_model.specs.declared.refusal.Refusal.{Refusal}
-use Rattle.ffa_model.specs.declared.refusal.Refusal.TheVariants.{SenderIsAnother, ReceiverUnknown, ReceiverIsCaller, MessagesUnreceived, ReceiverBuffersMissing, ReceiverRxFull, ReceiverRxSmall, DescriptorMalformed, HandleUnknown, NotReceiver, TransactionSenderDiffers, TagDiffers, KindDiffers, AlreadyRetrieved, RightTooMuch, EndpointIsAnother, NotOffered, NotHeld, ZerosNotAllowed, BitsTaken, BitsNotTheSenders, BitsNotTheCallers}
+use Rattle.ffa_model.specs.declared.refusal.Refusal.TheVariants.{SenderIsAnother, ReceiverUnknown, ReceiverIsCaller, MessagesUnreceived, ReceiverBuffersMissing, ReceiverRxFull, ReceiverRxSmall, DescriptorMalformed, HandleUnknown, NotReceiver, NotTheSenders, ReceiversDiffer, TransactionSenderDiffers, TagDiffers, KindDiffers, AlreadyRetrieved, RightTooMuch, EndpointIsAnother, NotOffered, NotHeld, ZerosNotAllowed, BitsTaken, BitsNotTheSenders, BitsNotTheCallers}
 use Rattle.ffa_model.specs.declared.manifest.Ffa.{Ffa}
 use Rattle.ffa_model.specs.declared.rights.Kind.{Kind}
 use Rattle.ffa_model.specs.declared.rights.Kind.TheVariants.{Share, Lend, Donate}
@@ -22,9 +24,10 @@ use Rattle.ffa_model.specs.Numbers.{Identifier}
 use Rattle.ffa_model.specs.AboutRegisters.{at_endpoint}
 use Rattle.ffa_model.specs.Bits.{bits_of}
 use Rattle.ffa_model.specs.Calls.{first_refusal}
-use Rattle.ffa_model.specs.DescriptorPlaces.{Versioned, in_version}
+use Rattle.ffa_model.specs.DescriptorPlaces.{Versioned, handle_field, in_version}
 use Rattle.ffa_model.specs.FirstFlaws.{relinquish_flaw, retrieve_flaw, send_flaw}
 use Rattle.ffa_model.specs.FlawPlaces.{field_value, flaw_place}
+use Rattle.ffa_model.specs.HypervisorRetrieve.{asks_back}
 use Rattle.ffa_model.specs.MemorySend.{transfer_guards, descriptor_in}
 use Rattle.ffa_model.specs.Messages.{MessageHeader, header_in, tx_bytes}
 use Rattle.ffa_model.specs.Notifications.{Notifications, class_of, is_bindable, is_bound, is_unbindable, notifications_of}
@@ -74,6 +77,7 @@ named_by_send endpoints send refusal = None
 abbrev pub named_by_retrieve : RetrieveDesc → Refusal → Option About
 named_by_retrieve d HandleUnknown = Some (Handle d.handle)
 named_by_retrieve d NotReceiver = Some (Handle d.handle)
+named_by_retrieve d ReceiversDiffer = Some (Handle d.handle)
 named_by_retrieve d TransactionSenderDiffers = Some (Endpoint d.sender)
 named_by_retrieve d TagDiffers = Some (Handle d.handle)
 named_by_retrieve d KindDiffers = Some (Handle d.handle)
@@ -97,9 +101,15 @@ abbrev pub about_send : Ffa → Kind → ℕ → Versioned → Refusal → Optio
 about_send ffa kind endpoints descriptor refusal =
     about_bytes descriptor (send_flaw ffa kind descriptor) (option_and_then (λ r. named_by_send endpoints r refusal) (send_of ffa kind descriptor)) refusal
 
-abbrev pub about_retrieve : Identifier → Versioned → Refusal → Option About
-about_retrieve e descriptor refusal =
-    about_bytes descriptor (retrieve_flaw e descriptor) (option_and_then (λ d. named_by_retrieve d refusal) (retrieve_of e descriptor)) refusal
+abbrev pub about_retrieve : Ffa → Identifier → Versioned → Refusal → Option About
+about_retrieve ffa e descriptor refusal =
+    about_bytes descriptor (retrieve_flaw ffa e descriptor) (option_and_then (λ d. named_by_retrieve d refusal) (retrieve_of ffa e descriptor)) refusal
+
+-- of a hypervisor's retrieve
+abbrev pub about_asked_back : Versioned → Refusal → Option About
+about_asked_back descriptor DescriptorMalformed = Some (about_field descriptor (Retrieve 0 NotZero))
+about_asked_back descriptor NotTheSenders = Some (Handle (handle_field descriptor))
+about_asked_back descriptor refusal = None
 
 -- a relinquish has one form in both versions
 abbrev pub about_relinquish : List ℕ → Refusal → Option About
@@ -148,7 +158,8 @@ about_sent s kind transfer refusal = where_whole s.buffers s.runner transfer (ab
 
 abbrev pub about_retrieved : State → Transfer → Refusal → Option About
 about_retrieved s transfer refusal =
-    where_whole s.buffers s.runner transfer (about_retrieve s.runner (descriptor_in s transfer.total) refusal)
+    if asks_back s transfer then about_asked_back (descriptor_in s transfer.total) refusal
+    else where_whole s.buffers s.runner transfer (about_retrieve s.ffa s.runner (descriptor_in s transfer.total) refusal)
 
 abbrev pub about_relinquished : State → Refusal → Option About
 about_relinquished s refusal = where_mapped (buffers_of s s.runner) (about_relinquish (tx_bytes s s.runner) refusal)

@@ -1,7 +1,7 @@
 -- SPDX-License-Identifier: MIT OR Apache-2.0
 -- The conditions of descriptors in an order, and the first that bytes break: where one fails, `Flaws` says what is so.
 use Rattle.std.specs.Prelude.{ℕ, zero, suc, ◌+◌, ◌*◌, ◌%◌, ◌^◌, ◌==◌, Bool, not, ◌||◌, nat_le, List, [], ◌∷◌, length, Option, Some, None, if◌then◌else◌}
-use Rattle.std.specs.List.{list_all}
+use Rattle.std.specs.List.{list_all, list_any}
 use Rattle.std.specs.Option.{option_or}
 use Rattle.ffa_model.specs.declared.flaw.Flaw.{Flaw}
 use Rattle.ffa_model.specs.declared.flaw.Flaw.TheVariants.{Header, Send, Access, Composite, Range, Retrieve, Relinquish}
@@ -14,11 +14,13 @@ use Rattle.ffa_model.specs.declared.flaw.RetrieveFlaw.TheVariants.{Attributes as
 use Rattle.ffa_model.specs.declared.flaw.RelinquishFlaw.TheVariants.{Short as RelinquishShort, Flags as RelinquishFlags, EndpointCount}
 use Rattle.ffa_model.specs.declared.limits.TheConstants.{MOST_RANGES}
 use Rattle.ffa_model.specs.declared.manifest.Ffa.{Ffa}
+use Rattle.ffa_model.specs.declared.manifest.Ffa.TheVariants.{V1_1, V1_2}
 use Rattle.ffa_model.specs.declared.rights.Kind.{Kind}
 use Rattle.ffa_model.specs.Bits.{bits}
+use Rattle.ffa_model.specs.Lists.{listed}
 use Rattle.ffa_model.specs.DescriptorPlaces.{Versioned, u32_at, u64_at, header_size, told_access_size, is_rest_zero, sender_field, attributes_field, flags_field, handle_field, receiver_count, array_place, array_end, access_place, endpoint_field, permissions_field, access_flags_field, composite_field, is_access_rest_zero, composite_place, total_field, range_count, range_place, normal_memory}
 use Rattle.ffa_model.specs.SendDescriptor.{flags_but_type, is_attributes, most_flags, most_receivers, is_grant, is_named, receivers_in, are_apart, range_in, range_end, ranges_in, page_total}
-use Rattle.ffa_model.specs.RetrieveDescriptor.{asked_permissions}
+use Rattle.ffa_model.specs.RetrieveDescriptor.{asked_permissions, endpoint_named, flags_but_alone, is_named_count, own_index, own_place}
 
 -- a condition, and the flaw where it fails
 abbrev pub first_broken : List (Bool × Flaw) → Option Flaw
@@ -96,27 +98,43 @@ send_flaw ffa kind descriptor =
     (option_or (composite_flaw descriptor)
     (option_or (first_of (range_count descriptor) (range_flaw descriptor)) (total_flaw descriptor)))))
 
--- OF A RETRIEVE for this endpoint: the header's fields, and the one access descriptor
-unfoldable pub asked_header_flaw : Versioned → Option Flaw
-asked_header_flaw descriptor =
-    first_broken (((attributes_field descriptor == 0) || (attributes_field descriptor == normal_memory), Retrieve AskedAttributes)
-    ∷ (flags_field descriptor == 8 * bits 4 3 (flags_field descriptor), Retrieve AskedFlags)
-    ∷ (receiver_count descriptor == 1, Retrieve AccessCount)
+-- OF A RETRIEVE for this endpoint: the header's fields, the access descriptor of the caller, and then whom all name
+unfoldable pub asked_header_flaw : Ffa → Versioned → Option Flaw
+asked_header_flaw ffa descriptor =
+    first_broken (((attributes_field descriptor == 0) || (attributes_field descriptor == normal_memory), Retrieve 0 AskedAttributes)
+    ∷ (flags_but_alone ffa (flags_field descriptor) == 8 * bits 4 3 (flags_field descriptor), Retrieve 0 AskedFlags)
+    ∷ (is_named_count ffa (flags_field descriptor) (receiver_count descriptor), Retrieve 0 AccessCount)
     ∷ [])
 
-unfoldable pub asked_access_flaw : ℕ → Versioned → Option Flaw
-asked_access_flaw endpoint descriptor =
-    first_broken ((endpoint_field descriptor.bytes (array_place descriptor) == endpoint, Retrieve ReceiverIsAnother)
-    ∷ (not (bits 1 0 (asked_permissions descriptor) == 3), Retrieve DataPermission)
-    ∷ (not (bits 3 2 (asked_permissions descriptor) == 3), Retrieve InstructionPermission)
-    ∷ (bits 7 4 (asked_permissions descriptor) == 0, Retrieve PermissionsReserved)
-    ∷ (access_flags_field descriptor.bytes (array_place descriptor) == 0, Retrieve AskedAccessFlags)
-    ∷ (composite_field descriptor.bytes (array_place descriptor) == 0, Retrieve CompositeTold)
-    ∷ (is_access_rest_zero descriptor.version descriptor.bytes (array_place descriptor), Retrieve AskedAccessReserved)
+unfoldable pub asked_access_flaw : Ffa → ℕ → Versioned → Option Flaw
+asked_access_flaw ffa endpoint descriptor =
+    first_broken ((endpoint_field descriptor.bytes (own_place ffa endpoint descriptor) == endpoint, Retrieve (own_index ffa endpoint descriptor) ReceiverIsAnother)
+    ∷ (not (bits 1 0 (asked_permissions ffa endpoint descriptor) == 3), Retrieve (own_index ffa endpoint descriptor) DataPermission)
+    ∷ (not (bits 3 2 (asked_permissions ffa endpoint descriptor) == 3), Retrieve (own_index ffa endpoint descriptor) InstructionPermission)
+    ∷ (bits 7 4 (asked_permissions ffa endpoint descriptor) == 0, Retrieve (own_index ffa endpoint descriptor) PermissionsReserved)
+    ∷ (access_flags_field descriptor.bytes (own_place ffa endpoint descriptor) == 0, Retrieve (own_index ffa endpoint descriptor) AskedAccessFlags)
+    ∷ (composite_field descriptor.bytes (own_place ffa endpoint descriptor) == 0, Retrieve (own_index ffa endpoint descriptor) CompositeTold)
+    ∷ (is_access_rest_zero descriptor.version descriptor.bytes (own_place ffa endpoint descriptor), Retrieve (own_index ffa endpoint descriptor) AskedAccessReserved)
     ∷ [])
 
-unfoldable pub retrieve_flaw : ℕ → Versioned → Option Flaw
-retrieve_flaw endpoint descriptor = option_or (header_flaw descriptor) (option_or (asked_header_flaw descriptor) (asked_access_flaw endpoint descriptor))
+-- access descriptor i
+unfoldable pub naming_flaw : Versioned → ℕ → Option Flaw
+naming_flaw descriptor i =
+    first_broken ((nat_le (access_flags_field descriptor.bytes (access_place descriptor i)) 1, Access i AccessFlags)
+    ∷ (composite_field descriptor.bytes (access_place descriptor i) == 0, Access i OtherComposite)
+    ∷ (is_access_rest_zero descriptor.version descriptor.bytes (access_place descriptor i), Access i AccessReserved)
+    ∷ (not (list_any (λ e. e == endpoint_named descriptor i) (listed i (endpoint_named descriptor))), Access i ReceiverTwice)
+    ∷ [])
+
+unfoldable pub names_flaw : Ffa → Versioned → Option Flaw
+names_flaw V1_1 descriptor = None
+names_flaw V1_2 descriptor = first_of (receiver_count descriptor) (naming_flaw descriptor)
+
+unfoldable pub retrieve_flaw : Ffa → ℕ → Versioned → Option Flaw
+retrieve_flaw ffa endpoint descriptor =
+    option_or (header_flaw descriptor)
+    (option_or (asked_header_flaw ffa descriptor)
+    (option_or (asked_access_flaw ffa endpoint descriptor) (names_flaw ffa descriptor)))
 
 -- OF A RELINQUISH
 unfoldable pub relinquish_flaw : List ℕ → Option Flaw

@@ -17,7 +17,7 @@ use Rattle.ffa_model.specs.declared.flaw.CompositeFlaw.TheVariants.{Outside, Una
 use Rattle.ffa_model.specs.declared.flaw.RangeFlaw.{RangeFlaw}
 use Rattle.ffa_model.specs.declared.flaw.RangeFlaw.TheVariants.{Empty, Unaligned as RangeUnaligned, TooHigh, Reserved as RangeReserved, Overlap}
 use Rattle.ffa_model.specs.declared.flaw.RetrieveFlaw.{RetrieveFlaw}
-use Rattle.ffa_model.specs.declared.flaw.RetrieveFlaw.TheVariants.{Attributes as AskedAttributes, Flags as AskedFlags, AccessCount, ReceiverIsAnother, DataPermission, InstructionPermission, PermissionsReserved, AccessFlags as AskedAccessFlags, CompositeTold, AccessReserved as AskedAccessReserved}
+use Rattle.ffa_model.specs.declared.flaw.RetrieveFlaw.TheVariants.{Attributes as AskedAttributes, Flags as AskedFlags, AccessCount, ReceiverIsAnother, DataPermission, InstructionPermission, PermissionsReserved, AccessFlags as AskedAccessFlags, CompositeTold, AccessReserved as AskedAccessReserved, NotZero}
 use Rattle.ffa_model.specs.declared.flaw.RelinquishFlaw.{RelinquishFlaw}
 use Rattle.ffa_model.specs.declared.flaw.RelinquishFlaw.TheVariants.{Short as RelinquishShort, Flags as RelinquishFlags, EndpointCount}
 use Rattle.ffa_model.specs.DescriptorPlaces.{Versioned, byte, u16_at, u32_at, u64_at, header_size, accesses_size}
@@ -96,18 +96,19 @@ range_flaw_place at TooHigh = field at 12
 range_flaw_place at RangeReserved = field (at + 12) 4
 range_flaw_place at Overlap = field at 12
 
--- by the place of the one access descriptor
+-- by the place of the caller's access descriptor; a header that has to be 0 is a field of its own, of all its bytes
 abbrev pub retrieve_flaw_place : Version → ℕ → RetrieveFlaw → FieldPlace
-retrieve_flaw_place version array AskedAttributes = field 2 2
-retrieve_flaw_place version array AskedFlags = field 4 4
-retrieve_flaw_place version array AccessCount = field 28 4
-retrieve_flaw_place version array ReceiverIsAnother = field array 2
-retrieve_flaw_place version array DataPermission = field (array + 2) 1
-retrieve_flaw_place version array InstructionPermission = field (array + 2) 1
-retrieve_flaw_place version array PermissionsReserved = field (array + 2) 1
-retrieve_flaw_place version array AskedAccessFlags = field (array + 3) 1
-retrieve_flaw_place version array CompositeTold = field (array + 4) 4
-retrieve_flaw_place version array AskedAccessReserved = access_rest_field version array
+retrieve_flaw_place version own AskedAttributes = field 2 2
+retrieve_flaw_place version own AskedFlags = field 4 4
+retrieve_flaw_place version own AccessCount = field 28 4
+retrieve_flaw_place version own ReceiverIsAnother = field own 2
+retrieve_flaw_place version own DataPermission = field (own + 2) 1
+retrieve_flaw_place version own InstructionPermission = field (own + 2) 1
+retrieve_flaw_place version own PermissionsReserved = field (own + 2) 1
+retrieve_flaw_place version own AskedAccessFlags = field (own + 3) 1
+retrieve_flaw_place version own CompositeTold = field (own + 4) 4
+retrieve_flaw_place version own AskedAccessReserved = access_rest_field version own
+retrieve_flaw_place version own NotZero = field 0 (header_size version)
 
 -- a relinquish that is short is a field of its own, of all its bytes
 abbrev pub relinquish_flaw_place : RelinquishFlaw → FieldPlace
@@ -115,14 +116,18 @@ relinquish_flaw_place RelinquishShort = field 0 18
 relinquish_flaw_place RelinquishFlags = field 8 4
 relinquish_flaw_place EndpointCount = field 12 4
 
+-- the place of the access descriptor with an index
+abbrev pub told_access : Versioned → ℕ → ℕ
+told_access descriptor i = told_array descriptor + accesses_size descriptor.version i
+
 -- the field of which the broken condition speaks
 abbrev pub flaw_place : Versioned → Flaw → FieldPlace
 flaw_place descriptor (Header flaw) = header_flaw_place descriptor.version flaw
 flaw_place descriptor (Send flaw) = send_flaw_place flaw
-flaw_place descriptor (Access i flaw) = access_flaw_place descriptor.version (told_array descriptor + accesses_size descriptor.version i) flaw
+flaw_place descriptor (Access i flaw) = access_flaw_place descriptor.version (told_access descriptor i) flaw
 flaw_place descriptor (Composite flaw) = composite_flaw_place (told_array descriptor) (told_composite descriptor) flaw
 flaw_place descriptor (Range i flaw) = range_flaw_place (told_composite descriptor + 16 + 16 * i) flaw
-flaw_place descriptor (Retrieve flaw) = retrieve_flaw_place descriptor.version (told_array descriptor) flaw
+flaw_place descriptor (Retrieve i flaw) = retrieve_flaw_place descriptor.version (told_access descriptor i) flaw
 flaw_place descriptor (Relinquish flaw) = relinquish_flaw_place flaw
 
 -- the number of 1, 2, 4 or 8 bytes at a place

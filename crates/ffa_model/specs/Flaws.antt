@@ -14,16 +14,17 @@ use Rattle.ffa_model.specs.declared.flaw.CompositeFlaw.TheVariants.{Outside, Una
 use Rattle.ffa_model.specs.declared.flaw.RangeFlaw.{RangeFlaw}
 use Rattle.ffa_model.specs.declared.flaw.RangeFlaw.TheVariants.{Empty, Unaligned as RangeUnaligned, TooHigh, Reserved as RangeReserved, Overlap}
 use Rattle.ffa_model.specs.declared.flaw.RetrieveFlaw.{RetrieveFlaw}
-use Rattle.ffa_model.specs.declared.flaw.RetrieveFlaw.TheVariants.{Attributes as AskedAttributes, Flags as AskedFlags, AccessCount, ReceiverIsAnother, DataPermission, InstructionPermission, PermissionsReserved, AccessFlags as AskedAccessFlags, CompositeTold, AccessReserved as AskedAccessReserved}
+use Rattle.ffa_model.specs.declared.flaw.RetrieveFlaw.TheVariants.{Attributes as AskedAttributes, Flags as AskedFlags, AccessCount, ReceiverIsAnother, DataPermission, InstructionPermission, PermissionsReserved, AccessFlags as AskedAccessFlags, CompositeTold, AccessReserved as AskedAccessReserved, NotZero}
 use Rattle.ffa_model.specs.declared.flaw.RelinquishFlaw.{RelinquishFlaw}
 use Rattle.ffa_model.specs.declared.flaw.RelinquishFlaw.TheVariants.{Short as RelinquishShort, Flags as RelinquishFlags, EndpointCount}
 use Rattle.ffa_model.specs.declared.limits.TheConstants.{MOST_RANGES}
 use Rattle.ffa_model.specs.declared.manifest.Ffa.{Ffa}
+use Rattle.ffa_model.specs.declared.manifest.Ffa.TheVariants.{V1_1, V1_2}
 use Rattle.ffa_model.specs.declared.rights.Kind.{Kind}
 use Rattle.ffa_model.specs.Bits.{bits}
 use Rattle.ffa_model.specs.DescriptorPlaces.{Versioned, u32_at, u64_at, header_size, told_access_size, is_rest_zero, sender_field, attributes_field, flags_field, handle_field, receiver_count, array_place, array_end, access_place, endpoint_field, permissions_field, access_flags_field, composite_field, is_access_rest_zero, composite_place, total_field, range_count, range_place, normal_memory}
 use Rattle.ffa_model.specs.SendDescriptor.{flags_but_type, is_attributes, most_flags, most_receivers, IsGrant, AreApart, range_in, range_end, ranges_in, page_total}
-use Rattle.ffa_model.specs.RetrieveDescriptor.{asked_permissions}
+use Rattle.ffa_model.specs.RetrieveDescriptor.{asked_permissions, endpoint_named, flags_but_alone, is_named_count, own_place}
 
 -- `IsHeader`
 abbrev pub HeaderBreaks : Versioned → HeaderFlaw → Type 0
@@ -82,29 +83,49 @@ SendBreaks ffa kind descriptor (Send flaw) = SendHeaderBreaks ffa kind descripto
 SendBreaks ffa kind descriptor (Access i flaw) = (i < receiver_count descriptor) × AccessBreaks kind descriptor i flaw
 SendBreaks ffa kind descriptor (Composite flaw) = CompositeBreaks descriptor flaw
 SendBreaks ffa kind descriptor (Range i flaw) = (i < range_count descriptor) × RangeBreaks descriptor i flaw
-SendBreaks ffa kind descriptor (Retrieve flaw) = ⊥
+SendBreaks ffa kind descriptor (Retrieve i flaw) = ⊥
 SendBreaks ffa kind descriptor (Relinquish flaw) = ⊥
 
 -- `Retrieve`, behind the header
-abbrev pub AskedBreaks : ℕ → Versioned → RetrieveFlaw → Type 0
-AskedBreaks endpoint descriptor AskedAttributes =
+abbrev pub AskedBreaks : Ffa → ℕ → Versioned → RetrieveFlaw → Type 0
+AskedBreaks ffa endpoint descriptor AskedAttributes =
     (attributes_field descriptor ≢ 0) × (attributes_field descriptor ≢ normal_memory)
-AskedBreaks endpoint descriptor AskedFlags = flags_field descriptor ≢ 8 * bits 4 3 (flags_field descriptor)
-AskedBreaks endpoint descriptor AccessCount = receiver_count descriptor ≢ 1
-AskedBreaks endpoint descriptor ReceiverIsAnother = endpoint_field descriptor.bytes (array_place descriptor) ≢ endpoint
-AskedBreaks endpoint descriptor DataPermission = bits 1 0 (asked_permissions descriptor) ≡ 3
-AskedBreaks endpoint descriptor InstructionPermission = bits 3 2 (asked_permissions descriptor) ≡ 3
-AskedBreaks endpoint descriptor PermissionsReserved = bits 7 4 (asked_permissions descriptor) ≢ 0
-AskedBreaks endpoint descriptor AskedAccessFlags = access_flags_field descriptor.bytes (array_place descriptor) ≢ 0
-AskedBreaks endpoint descriptor CompositeTold = composite_field descriptor.bytes (array_place descriptor) ≢ 0
-AskedBreaks endpoint descriptor AskedAccessReserved =
-    is_access_rest_zero descriptor.version descriptor.bytes (array_place descriptor) ≡ false
+AskedBreaks ffa endpoint descriptor AskedFlags =
+    flags_but_alone ffa (flags_field descriptor) ≢ 8 * bits 4 3 (flags_field descriptor)
+AskedBreaks ffa endpoint descriptor AccessCount =
+    is_named_count ffa (flags_field descriptor) (receiver_count descriptor) ≡ false
+AskedBreaks ffa endpoint descriptor ReceiverIsAnother =
+    endpoint_field descriptor.bytes (own_place ffa endpoint descriptor) ≢ endpoint
+AskedBreaks ffa endpoint descriptor DataPermission = bits 1 0 (asked_permissions ffa endpoint descriptor) ≡ 3
+AskedBreaks ffa endpoint descriptor InstructionPermission = bits 3 2 (asked_permissions ffa endpoint descriptor) ≡ 3
+AskedBreaks ffa endpoint descriptor PermissionsReserved = bits 7 4 (asked_permissions ffa endpoint descriptor) ≢ 0
+AskedBreaks ffa endpoint descriptor AskedAccessFlags =
+    access_flags_field descriptor.bytes (own_place ffa endpoint descriptor) ≢ 0
+AskedBreaks ffa endpoint descriptor CompositeTold =
+    composite_field descriptor.bytes (own_place ffa endpoint descriptor) ≢ 0
+AskedBreaks ffa endpoint descriptor AskedAccessReserved =
+    is_access_rest_zero descriptor.version descriptor.bytes (own_place ffa endpoint descriptor) ≡ false
+AskedBreaks ffa endpoint descriptor NotZero = ⊥
+
+-- `IsNaming` and `distinct`, of access descriptor i
+abbrev pub NamingBreaks : Versioned → ℕ → AccessFlaw → Type 0
+NamingBreaks descriptor i AccessFlags = 1 < access_flags_field descriptor.bytes (access_place descriptor i)
+NamingBreaks descriptor i OtherComposite = composite_field descriptor.bytes (access_place descriptor i) ≢ 0
+NamingBreaks descriptor i AccessReserved =
+    is_access_rest_zero descriptor.version descriptor.bytes (access_place descriptor i) ≡ false
+NamingBreaks descriptor i ReceiverTwice = (j : ℕ) × (j < i) × (endpoint_named descriptor j ≡ endpoint_named descriptor i)
+NamingBreaks descriptor i flaw = ⊥
+
+abbrev pub NamesBreak : Ffa → Versioned → ℕ → AccessFlaw → Type 0
+NamesBreak V1_1 descriptor i flaw = ⊥
+NamesBreak V1_2 descriptor i flaw = (i < receiver_count descriptor) × NamingBreaks descriptor i flaw
 
 -- The bytes break this condition of a retrieve descriptor for this endpoint
-abbrev pub RetrieveBreaks : ℕ → Versioned → Flaw → Type 0
-RetrieveBreaks endpoint descriptor (Header flaw) = HeaderBreaks descriptor flaw
-RetrieveBreaks endpoint descriptor (Retrieve flaw) = AskedBreaks endpoint descriptor flaw
-RetrieveBreaks endpoint descriptor flaw = ⊥
+abbrev pub RetrieveBreaks : Ffa → ℕ → Versioned → Flaw → Type 0
+RetrieveBreaks ffa endpoint descriptor (Header flaw) = HeaderBreaks descriptor flaw
+RetrieveBreaks ffa endpoint descriptor (Retrieve i flaw) = AskedBreaks ffa endpoint descriptor flaw
+RetrieveBreaks ffa endpoint descriptor (Access i flaw) = NamesBreak ffa descriptor i flaw
+RetrieveBreaks ffa endpoint descriptor flaw = ⊥
 
 -- `Relinquish`
 abbrev pub ReturnBreaks : List ℕ → RelinquishFlaw → Type 0

@@ -44,6 +44,7 @@ pub mod ResponseBytes
 pub mod Transactions
 pub mod MemorySend
 pub mod MemoryRetrieve
+pub mod HypervisorRetrieve
 pub mod MemoryReturn
 pub mod SoundState
 pub mod Step

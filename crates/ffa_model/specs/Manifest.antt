@@ -5,7 +5,9 @@ use Rattle.std.specs.List.{list_all, flat_map}
 use Rattle.ffa_model.specs.declared.limits.TheConstants.{MOST_BLOCKS, MOST_ENDPOINTS, MOST_REGIONS}
 use Rattle.ffa_model.specs.declared.endpoint.Region.{Region}
 use Rattle.ffa_model.specs.declared.endpoint.Endpoint.{Endpoint}
-use Rattle.ffa_model.specs.Bits.{is_set}
+use Rattle.ffa_model.specs.declared.endpoint.Version.{Version}
+use Rattle.ffa_model.specs.declared.endpoint.Version.TheVariants.{V1_2}
+use Rattle.ffa_model.specs.Bits.{bits, is_set}
 use Rattle.ffa_model.specs.Numbers.{PageIndex}
 
 -- each endpoint has a level 1 page, a level 2 page and a level 3 page for each block of RAM
@@ -50,8 +52,14 @@ abbrev pub is_normal_world : Endpoint → Bool
 is_normal_world e =
     (is_nil e.uuid && nat_lt e.properties.0 16) && (not (is_set 0 e.properties.0) && not (is_set 3 e.properties.0))
 
+-- the properties that a partition may have: bits 3:0, and where it was built for FF-A 1.2 also bits 9 and 10, of second direct
+-- messages
+abbrev pub are_properties : Version → ℕ → Bool
+are_properties V1_2 word = nat_lt word (2 ^ 11) && bits 8 4 word == 0
+are_properties version word = nat_lt word 16
+
 abbrev pub is_partition : Endpoint → Bool
-is_partition e = not (is_nil e.uuid) && nat_lt e.properties.0 16
+is_partition e = not (is_nil e.uuid) && are_properties e.version e.properties.0
 
 abbrev pub are_identified : List Endpoint → Bool
 are_identified [] = false

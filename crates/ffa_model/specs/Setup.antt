@@ -12,11 +12,12 @@ use Rattle.ffa_model.specs.declared.manifest.Ffa.{Ffa}
 use Rattle.ffa_model.specs.declared.manifest.Ffa.TheVariants as served
 use Rattle.ffa_model.specs.declared.operation.ErrorCode.TheVariants.{NotSupported}
 use Rattle.ffa_model.specs.declared.refusal.Refusal.{Refusal}
-use Rattle.ffa_model.specs.declared.refusal.Refusal.TheVariants.{FunctionUnknown, UuidUnknown, BuffersMissing, RxFull}
+use Rattle.ffa_model.specs.declared.refusal.Refusal.TheVariants.{FunctionUnknown, UuidUnknown, BuffersMissing, BuffersNeeded, RxFull}
 use Rattle.ffa_model.specs.declared.call.Reply.{Reply}
 use Rattle.ffa_model.specs.declared.call.Reply.TheVariants.{Version, Error}
 use Rattle.ffa_model.specs.Bits.{bits, is_set}
 use Rattle.ffa_model.specs.Identifiers.{identifier}
+use Rattle.ffa_model.specs.Numbers.{Identifier}
 use Rattle.ffa_model.specs.Manifest.{is_nil}
 use Rattle.ffa_model.specs.Registers.{is_function}
 use Rattle.ffa_model.specs.State.{State, Party, buffers_of, version_of, with_version}
@@ -61,28 +62,33 @@ abbrev pub map_properties : versions.Version → ℕ
 map_properties V1_2 = MOST_BUFFER_PAGES * 2 ^ 16
 map_properties version = 0
 
--- and of FFA_MEM_RETRIEVE_REQ: in bit 1 that its response tells non-secure memory, as the compact form doesn't
-abbrev pub retrieve_properties : versions.Version → ℕ
-retrieve_properties Compact = 0
-retrieve_properties version = 2
+-- and of FFA_MEM_RETRIEVE_REQ: in bit 1 that its response tells non-secure memory, as the compact form doesn't, and in bit 2,
+-- to the normal world, that a hypervisor may read back what it sent
+abbrev pub tells_normal : versions.Version → Bool
+tells_normal Compact = false
+tells_normal version = true
+
+abbrev pub retrieve_properties : Identifier → versions.Version → ℕ
+retrieve_properties e version = (if tells_normal version then 2 else 0) + (if e == 0 then 4 else 0)
 
 -- what is told of a call beside that there is one, to a caller of this form
-abbrev pub feature_properties : Ffa → versions.Version → ℕ → ℕ
-feature_properties served.V1_1 version function = 0
-feature_properties served.V1_2 version function =
+abbrev pub feature_properties : Ffa → Identifier → versions.Version → ℕ → ℕ
+feature_properties served.V1_1 e version function = 0
+feature_properties served.V1_2 e version function =
     if function == FFA_RXTX_MAP || function == FFA_RXTX_MAP_64 then map_properties version
-    else if function == FFA_MEM_RETRIEVE_REQ || function == FFA_MEM_RETRIEVE_REQ_64 then retrieve_properties version
+    else if function == FFA_MEM_RETRIEVE_REQ || function == FFA_MEM_RETRIEVE_REQ_64 then retrieve_properties e version
     else 0
 
-abbrev pub features_reply : Ffa → versions.Version → ℕ → Reply
-features_reply ffa version function =
-    if is_function function then success (feature_properties ffa version function) 0 else Error NotSupported
+abbrev pub features_reply : Ffa → Identifier → versions.Version → ℕ → Reply
+features_reply ffa e version function =
+    if is_function function then success (feature_properties ffa e version function) 0 else Error NotSupported
 
 abbrev pub features_guards : ℕ → List (Bool × Refusal)
 features_guards function = (is_function function, FunctionUnknown) ∷ []
 
 abbrev pub features : State → ℕ → Service
-features s function = record (replying s (features_reply s.ffa (version_of s s.runner) function)) { guards = features_guards function }
+features s function =
+    record (replying s (features_reply s.ffa s.runner (version_of s s.runner) function)) { guards = features_guards function }
 
 -- the 16 bytes that four registers hold
 abbrev pub uuid_bytes : List ℕ → List ℕ
@@ -96,18 +102,24 @@ is_selected uuid p = not (p.0 == 0) && (is_nil uuid || bytes_eq p.1.uuid uuid)
 abbrev pub selected : List Party → List ℕ → List (ℕ × Party)
 selected parties uuid = filter (is_selected uuid) (enumerate_from 0 parties)
 
+-- the properties that are told: on a machine of FF-A 1.2 those of second direct messages, bits 9 and 10, to a caller of FF-A 1.2
+abbrev pub properties_told : Ffa → versions.Version → ℕ → ℕ
+properties_told served.V1_1 version properties = properties
+properties_told served.V1_2 V1_2 properties = properties
+properties_told served.V1_2 version properties = bits 3 0 properties
+
 -- what the information on a partition holds behind its identifier and its one execution context: in the compact form the
 -- properties of messages alone; else bit 8 says that it is AArch64, and the UUID answers the Nil UUID alone
-abbrev pub properties_info : versions.Version → List ℕ → Party → List ℕ
-properties_info Compact uuid party = little_bytes 4 (bits 2 0 party.properties)
-properties_info version uuid party =
-    little_bytes 4 (party.properties + 0x100) ++ (if is_nil uuid then party.uuid else replicate 16 0)
+abbrev pub properties_info : Ffa → versions.Version → List ℕ → Party → List ℕ
+properties_info ffa Compact uuid party = little_bytes 4 (bits 2 0 party.properties)
+properties_info ffa version uuid party =
+    little_bytes 4 (properties_told ffa version party.properties + 0x100) ++ (if is_nil uuid then party.uuid else replicate 16 0)
 
-abbrev pub info_of : versions.Version → List ℕ → ℕ × Party → List ℕ
-info_of version uuid p = little_bytes 2 (identifier p.0) ++ little_bytes 2 1 ++ properties_info version uuid p.1
+abbrev pub info_of : Ffa → versions.Version → List ℕ → ℕ × Party → List ℕ
+info_of ffa version uuid p = little_bytes 2 (identifier p.0) ++ little_bytes 2 1 ++ properties_info ffa version uuid p.1
 
-abbrev pub info_bytes : versions.Version → List Party → List ℕ → List ℕ
-info_bytes version parties uuid = flat_map (info_of version uuid) (selected parties uuid)
+abbrev pub info_bytes : Ffa → versions.Version → List Party → List ℕ → List ℕ
+info_bytes ffa version parties uuid = flat_map (info_of ffa version uuid) (selected parties uuid)
 
 -- the size of one partition's information as its caller is told it; a compact caller is told 0
 abbrev pub told_info_size : versions.Version → ℕ
@@ -121,16 +133,22 @@ abbrev pub is_any : {X : Type 0} → List X → Bool
 is_any [] = false
 is_any (x ∷ xs) = true
 
+-- whether a caller without buffers is refused by a check of its own: on a machine of FF-A 1.2
+abbrev pub needs_buffers : Ffa → Bool
+needs_buffers served.V1_1 = false
+needs_buffers served.V1_2 = true
+
 abbrev pub info_guards : State → List ℕ → ℕ → List (Bool × Refusal)
 info_guards s uuid flags =
     (is_nil uuid || is_any (selected s.parties uuid), UuidUnknown)
-    ∷ (is_count_alone flags || is_some (buffers_of s s.runner), BuffersMissing)
+    ∷ (is_count_alone flags || is_some (buffers_of s s.runner) || needs_buffers s.ffa, BuffersMissing)
+    ∷ (is_count_alone flags || is_some (buffers_of s s.runner), BuffersNeeded)
     ∷ (is_count_alone flags || not (is_full (buffers_of s s.runner)), RxFull)
     ∷ []
 
 abbrev pub informed : State → List ℕ → ℕ → State
 informed s uuid flags =
-    if is_count_alone flags then s else filled s s.runner (info_bytes (version_of s s.runner) s.parties uuid)
+    if is_count_alone flags then s else filled s s.runner (info_bytes s.ffa (version_of s s.runner) s.parties uuid)
 
 abbrev pub info_get : State → List ℕ → ℕ → Service
 info_get s words flags =

@@ -20,7 +20,7 @@ use Rattle.ffa_model.specs.Buffers.{rxtx_map, rxtx_unmap, rx_release}
 use Rattle.ffa_model.specs.RunStates.{direct_request, direct_response, run_partition, msg_wait, yield_now}
 use Rattle.ffa_model.specs.Messages.{msg_send2}
 use Rattle.ffa_model.specs.MemorySend.{memory_send}
-use Rattle.ffa_model.specs.MemoryRetrieve.{memory_retrieve}
+use Rattle.ffa_model.specs.HypervisorRetrieve.{memory_retrieve}
 use Rattle.ffa_model.specs.MemoryReturn.{memory_relinquish, memory_reclaim}
 use Rattle.ffa_model.specs.Notifications.{bitmap_create, bitmap_destroy, notification_bind, notification_unbind, notification_set, notification_get}
 

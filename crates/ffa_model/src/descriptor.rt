@@ -72,3 +72,19 @@ pub struct Response {
     pub rights: Rights,
     pub ranges: ArrayVec<Range, MOST_RANGES>,
 }
+
+/// What the answer to a hypervisor's retrieve tells: a transaction as it was sent, with all receivers.
+#[derive(Drop)]
+pub struct SentTransaction {
+    pub sender: EndpointId,
+    pub kind: Kind,
+    /// Whether the pages were zeroed before they were offered.
+    pub zero: bool,
+    /// Whether the pages are told to be non-secure.
+    pub normal: bool,
+    pub handle: u64,
+    pub tag: u64,
+    /// The receivers, with the data right that each was granted.
+    pub receivers: ArrayVec<Receiver, MOST_RECEIVERS>,
+    pub ranges: ArrayVec<Range, MOST_RANGES>,
+}

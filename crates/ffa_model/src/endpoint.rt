@@ -90,6 +90,8 @@ bitflag_items! {
         const SENDS_DIRECT_REQUESTS = 2;
         const INDIRECT_MESSAGES = 4;
         const RECEIVES_NOTIFICATIONS = 8;
+        const RECEIVES_SECOND_REQUESTS = 0x200;
+        const SENDS_SECOND_REQUESTS = 0x400;
     }
 }
 
@@ -100,7 +102,8 @@ impl Flags for Properties {
     ghost exact = { ⊤ };
 
     ghost table = { (codes "RECEIVES_DIRECT_REQUESTS", 1) ∷ (codes "SENDS_DIRECT_REQUESTS", 2)
-        ∷ (codes "INDIRECT_MESSAGES", 4) ∷ (codes "RECEIVES_NOTIFICATIONS", 8) ∷ [] };
+        ∷ (codes "INDIRECT_MESSAGES", 4) ∷ (codes "RECEIVES_NOTIFICATIONS", 8)
+        ∷ (codes "RECEIVES_SECOND_REQUESTS", 0x200) ∷ (codes "SENDS_SECOND_REQUESTS", 0x400) ∷ [] };
 
     ghost set_of = { λ p. p.0 };
 

@@ -9,14 +9,16 @@ pub enum Flaw {
     Header(HeaderFlaw),
     /// A condition of the header of a send only.
     Send(SendFlaw),
-    /// A condition of the access descriptor of a send that has this index, counted from 0.
+    /// A condition of the access descriptor that has this index, counted from 0: of a send, or, in FF-A 1.2, of a retrieve that
+    /// names its receivers.
     Access(u32, AccessFlaw),
     /// A condition of the composite of a send.
     Composite(CompositeFlaw),
     /// A condition of the range of a send that has this index, counted from 0.
     Range(u32, RangeFlaw),
-    /// A condition of a retrieve descriptor only.
-    Retrieve(RetrieveFlaw),
+    /// A condition of a retrieve descriptor only. If it is one of an access descriptor, this is the index of the caller's, counted
+    /// from 0.
+    Retrieve(u32, RetrieveFlaw),
     /// A condition of a relinquish descriptor.
     Relinquish(RelinquishFlaw),
 }
@@ -53,14 +55,14 @@ pub enum SendFlaw {
     ManyReceivers,
 }
 
-/// A condition of an access descriptor of a send, by what is wrong if the bytes break it.
+/// A condition of each access descriptor, by what is wrong if the bytes break it.
 #[derive(Clone, Copy)]
 pub enum AccessFlaw {
     /// The call does not allow the permissions of the access descriptor.
     Permissions,
-    /// The flags of the access descriptor are not 0.
+    /// A flag of the access descriptor is set that the call does not allow.
     Flags,
-    /// The access descriptor refers to a different composite than the first one.
+    /// The access descriptor refers to another composite than the one that the descriptor has, if it has one.
     OtherComposite,
     /// Reserved bytes of the access descriptor are not 0.
     Reserved,
@@ -113,11 +115,11 @@ pub enum RangeFlaw {
 pub enum RetrieveFlaw {
     /// The memory attributes are neither 0 nor normal memory.
     Attributes,
-    /// A flag other than the transaction type is set.
+    /// A flag is set that the call does not allow.
     Flags,
-    /// The number of access descriptors is not 1.
+    /// The number of access descriptors is not 1 in FF-A 1.1. In FF-A 1.2 it is not 1 to 4, or not 1 although bit 10 of the flags is set.
     AccessCount,
-    /// The access descriptor does not name the caller.
+    /// No access descriptor names the caller.
     ReceiverIsAnother,
     /// The data permission has a reserved value.
     DataPermission,
@@ -131,6 +133,8 @@ pub enum RetrieveFlaw {
     CompositeTold,
     /// Reserved bytes of the access descriptor are not 0.
     AccessReserved,
+    /// A field of the header of a hypervisor's retrieve is not 0. Only the handle may have another value.
+    NotZero,
 }
 
 /// A condition of a relinquish descriptor, by what is wrong if the bytes break it.

@@ -23,7 +23,7 @@ pub mod why;
 
 pub use call::{Call, DirectMessage, NotificationBits, Reply, Transfer};
 pub use certificate::CertRun;
-pub use descriptor::{RelinquishDesc, Response, RetrieveDesc, SendDesc};
+pub use descriptor::{RelinquishDesc, Response, RetrieveDesc, SendDesc, SentTransaction};
 pub use endpoint::{
     Address, Endpoint, EndpointId, PageNo, Properties, Region, Version, regions_until, right_in,
 };

@@ -25,7 +25,7 @@ pub enum Refusal {
     ReceiverIsCaller,
     /// The caller is not the normal world, and only the normal world may make this call.
     NotNormalWorld,
-    /// The execution context that the call names is not 0.
+    /// The endpoint does not have the execution context that the call names.
     ContextUnknown,
     /// The caller's RX is full.
     RxFull,
@@ -94,7 +94,7 @@ pub enum Refusal {
     // Notifications.
     /// The endpoint whose bitmaps the call creates or destroys is not the normal world.
     EndpointNotNormalWorld,
-    /// The number of execution contexts that FFA_NOTIFICATION_BITMAP_CREATE names is not 1.
+    /// The normal world cannot have the number of execution contexts that FFA_NOTIFICATION_BITMAP_CREATE names.
     ContextCount,
     /// The normal world already has notification bitmaps.
     BitmapsExist,
@@ -168,6 +168,11 @@ pub enum Refusal {
     // Of a machine that distinguishes secure from non-secure memory.
     /// The call sends secure pages to the normal world, or together with non-secure pages.
     WorldsMixed,
+    // Of a machine of FF-A 1.2.
+    /// The retrieve names several endpoints, and these are not exactly the receivers of the transaction.
+    ReceiversDiffer,
+    /// The caller of FFA_PARTITION_INFO_GET has no RX and TX.
+    BuffersNeeded,
 }
 
 macro_rules! words {
@@ -184,7 +189,7 @@ pub const WORDS: &[(Refusal, &str)] = &words![
     ReceiverUnknown "no endpoint has the receiver's identifier";
     ReceiverIsCaller "the receiver is the caller";
     NotNormalWorld "the caller is not the normal world";
-    ContextUnknown "the execution context is not 0";
+    ContextUnknown "the endpoint does not have this execution context";
     RxFull "the caller's RX is full";
     UuidUnknown "no partition has the UUID";
     BuffersMapped "the caller already has RX and TX";
@@ -216,7 +221,7 @@ pub const WORDS: &[(Refusal, &str)] = &words![
     ReceiverRxFull "the receiver's RX is full";
     ReceiverRxSmall "the message with its header is longer than the receiver's RX";
     EndpointNotNormalWorld "the endpoint is not the normal world";
-    ContextCount "the number of execution contexts is not 1";
+    ContextCount "the normal world cannot have this number of execution contexts";
     BitmapsExist "the normal world already has notification bitmaps";
     BitmapsMissing "the endpoint has no notification bitmaps";
     BitsPending "a notification bit of the normal world is pending";
@@ -252,6 +257,8 @@ pub const WORDS: &[(Refusal, &str)] = &words![
     NotTheSenders "no open transaction from the caller has the handle";
     StillHeld "a receiver still holds the transaction";
     WorldsMixed "secure pages are sent to the normal world, or together with non-secure pages";
+    ReceiversDiffer "the endpoints in the descriptor are not the transaction's receivers";
+    BuffersNeeded "the call needs RX and TX, and the caller has none";
 ];
 
 impl Refusal {
@@ -298,6 +305,7 @@ impl Refusal {
             Refusal::ZerosNotAllowed => ErrorCode::Denied,
             Refusal::StillHeld => ErrorCode::Denied,
             Refusal::WorldsMixed => ErrorCode::Denied,
+            Refusal::BuffersNeeded => ErrorCode::Denied,
             _ => ErrorCode::InvalidParameters,
         }
     }

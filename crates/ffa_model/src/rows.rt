@@ -5,7 +5,8 @@ use crate::function::*;
 use crate::refusal::Refusal;
 
 /// Of a call the identifier of its 32-bit form and its name; the registers that its 64-bit form reads whole, none where it
-/// has no such form; and its checks, in the order in which they are made.
+/// has no such form; and its checks. Those of FF-A 1.1 stand in the order in which they are made. Those that only a machine of
+/// FF-A 1.2 makes stand behind them, so that each check keeps its number.
 // A row is a tuple, because no definition can name a constant of a struct with references. The library for C does not
 // reach CALLS and WORDS, because they would need relocation. If guards were made from a row's checks and a list of
 // tests, each test would be far from its name.
@@ -38,7 +39,7 @@ pub const CALLS: &[CallRow] = &rows![
         BuffersMapped BufferPageCount TxMisplaced RxMisplaced BuffersOverlap TxUnusable RxUnusable
     ];
     FFA_RXTX_UNMAP [] [EndpointNotZero BuffersMissing];
-    FFA_PARTITION_INFO_GET [] [UuidUnknown BuffersMissing RxFull];
+    FFA_PARTITION_INFO_GET [] [UuidUnknown BuffersMissing RxFull BuffersNeeded];
     FFA_ID_GET [] [];
     FFA_MSG_WAIT [] [NotRun];
     FFA_YIELD [] [NobodyToYieldTo];
@@ -54,7 +55,7 @@ pub const CALLS: &[CallRow] = &rows![
     FFA_MEM_RETRIEVE_REQ [3] [
         BuffersMissing Fragmented DescriptorTooLong BufferAddressGiven BufferPagesGiven DescriptorMalformed
         HandleUnknown NotReceiver TransactionSenderDiffers TagDiffers KindDiffers AlreadyRetrieved RightTooMuch
-        RxFull
+        RxFull ReceiversDiffer NotTheSenders
     ];
     FFA_MEM_RELINQUISH [] [
         BuffersMissing DescriptorMalformed EndpointIsAnother NotOffered NotHeld ZerosNotAllowed
