@@ -9,9 +9,11 @@ use Rattle.uuid.specs.Text.{parsed}
 use Rattle.ffa_model.specs.declared.limits.TheConstants.{MOST_BLOCKS, MOST_ENDPOINTS, MOST_RAM, MOST_REGIONS}
 use Rattle.ffa_model.specs.declared.endpoint.Region.{Region}
 use Rattle.ffa_model.specs.declared.endpoint.Endpoint.{Endpoint}
+use Rattle.ffa_model.specs.declared.endpoint.Version.{Version}
+use Rattle.ffa_model.specs.declared.endpoint.Version.TheVariants.{V1_1}
 use Rattle.ffa_model.specs.declared.manifest.Ffa.{Ffa}
 use Rattle.ffa_model.specs.Bits.{is_set}
-use Rattle.ffa_model.specs.Manifest.{has_tables, is_accepted, is_ram_base, is_ram_size, is_from_to, is_placed, are_apart, regions_of, are_counted, are_identified, is_normal_world, is_partition, is_nil}
+use Rattle.ffa_model.specs.Manifest.{has_tables, is_accepted, is_ram_base, is_ram_size, is_from_to, is_placed, are_apart, regions_of, are_counted, are_identified, are_properties, is_normal_world, is_partition, is_nil}
 use Rattle.ffa_manifest.specs.declared.error.ManifestError.TheVariants.{WrongKind, EndpointCount, Uuid, Property, RamBase, RamBlocks}
 use Rattle.ffa_manifest.specs.Reading.{or_cause, item_count}
 use Rattle.ffa_manifest.specs.Keys.{text_at, integer_at}
@@ -32,17 +34,18 @@ uuid_at-some : (ms : Members) (uuid : List ℕ) → uuid_at ms ≡ Ok uuid → n
 unfolding uuid_at
 uuid_at-some ms uuid h = let (text, _, h1) = bind_ok (text_at (codes "uuid") ms) _ uuid h in identifier-some text uuid h1
 
-properties_at-small : (ms : Members) (n : ℕ) → properties_at ms ≡ Ok n → nat_lt n 16 ≡ true
+properties_at-allowed : (version : Version) (ms : Members) (n : ℕ) → properties_at version ms ≡ Ok n → are_properties version n ≡ true
 unfolding properties_at
-properties_at-small ms n h = let (o, _, h1) = bind_ok (integer_at (codes "properties") ms) _ n h in tested_ok (λ m. nat_lt m 16) Property o n h1
+properties_at-allowed version ms n h =
+    let (o, _, h1) = bind_ok (integer_at (codes "properties") ms) _ n h in tested_ok (are_properties version) Property o n h1
 
 normal_world_properties-pass : (ms : Members) (n : ℕ) → normal_world_properties ms ≡ Ok n → (nat_lt n 16 && (not (is_set 0 n) && not (is_set 3 n))) ≡ true
 unfolding normal_world_properties
 normal_world_properties-pass ms n h =
-    let (m, is, h1) = bind_ok (properties_at ms) _ n h in
+    let (m, is, h1) = bind_ok (properties_at V1_1 ms) _ n h in
     let g = refusal_ok (is_set 0 m || is_set 3 m) Property m n h1 in
     let (first, fourth) = or_parts (is_set 0 m) (is_set 3 m) g.0 in
-    let passes : (nat_lt m 16 && (not (is_set 0 m) && not (is_set 3 m))) ≡ true = rw (properties_at-small ms m is, first, fourth) refl in
+    let passes : (nat_lt m 16 && (not (is_set 0 m) && not (is_set 3 m))) ≡ true = rw (properties_at-allowed V1_1 ms m is, first, fourth) refl in
     ap (λ x. nat_lt x 16 && (not (is_set 0 x) && not (is_set 3 x))) (sym g.1) ∙ passes
 
 -- the first endpoint is the normal world, each other one a partition
@@ -74,12 +77,12 @@ partition-read ffa placed b bs ms e apart h =
     let (_, _, h1) = bind_ok (partition_keys ms) _ e h in
     let (version, _, h2) = bind_ok (version_at ffa ms) _ e h1 in
     let (uuid, some, h3) = bind_ok (uuid_at ms) _ e h2 in
-    let (properties, few, h4) = bind_ok (properties_at ms) _ e h3 in
+    let (properties, few, h4) = bind_ok (properties_at version ms) _ e h3 in
     let (regions, read, h5) = bind_ok (regions_at placed (regions_of (b ∷ bs)) ms) _ e h4 in
     let is : endpoint_of version uuid properties regions ≡ e = cc in
     subst (EndpointRead placed (b ∷ bs)) is (record {
       regions = regions_at-read placed (regions_of (b ∷ bs)) ms regions apart read;
-      identified = rw (uuid_at-some ms uuid some, properties_at-small ms properties few) refl;
+      identified = rw (uuid_at-some ms uuid some, properties_at-allowed version ms properties few) refl;
     })
 
 pub none-some : (n : ℕ) → (suc n == 0) ≡ false

@@ -24,14 +24,9 @@ normal_world-tests true true false fourth = refl
 normal_world-tests true false first fourth = refl
 normal_world-tests false small first fourth = refl
 
-partition-tests : (some small : Bool) → (some && small) ≡ (some && (small && true))
-partition-tests true true = refl
-partition-tests true false = refl
-partition-tests false small = refl
-
-is_next-tests : (before : List Endpoint) (e : Endpoint) → is_next before e ≡ (is_uuid_after before e.uuid && are_properties_after before e.properties.0)
+is_next-tests : (before : List Endpoint) (e : Endpoint) → is_next before e ≡ (is_uuid_after before e.uuid && are_properties_after before e.version e.properties.0)
 is_next-tests [] e = normal_world-tests (is_nil e.uuid) (nat_lt e.properties.0 16) (is_set 0 e.properties.0) (is_set 3 e.properties.0)
-is_next-tests (b ∷ bs) e = rw (none-some (length bs)) (partition-tests (not (is_nil e.uuid)) (nat_lt e.properties.0 16))
+is_next-tests (b ∷ bs) e = rw (none-some (length bs)) refl
 
 region-next : (placed : Region → Bool) (taken own : List Region) (r : Region) → AreSound placed taken own → first_failure (region_tests placed (taken ++ own) r) ≡ None → AreSound placed taken (own ++ r ∷ [])
 unfolding region_tests
@@ -45,7 +40,7 @@ unfolding endpoint_tests
 endpoint-read ffa placed before e apart h =
     let (_, h0) = passed-first (is_version ffa e.version) Version _ h in
     let (identified, h1) = passed-first (is_uuid_after before e.uuid) Uuid _ h0 in
-    let (bounded, h2) = passed-first (are_properties_after before e.properties.0) Property _ h1 in
+    let (bounded, h2) = passed-first (are_properties_after before e.version e.properties.0) Property _ h1 in
     let (counted, h3) = passed-first (is_from_to 1 MOST_REGIONS (length e.regions.items)) RegionCount _ h2 in
     record {
       regions = record {
@@ -113,7 +108,7 @@ endpoint-passed : (ffa : Ffa) (placed : Region → Bool) (es : List Endpoint) �
     → (before : List Endpoint) (e : Endpoint) (after : List Endpoint) → es ≡ before ++ e ∷ after → first_failure (endpoint_tests ffa placed before e) ≡ None
 unfolding endpoint_tests region_tests
 endpoint-passed ffa placed es versioned identified counted in_place apart before e after is =
-    let (uuid, properties) = and_parts (is_uuid_after before e.uuid) (are_properties_after before e.properties.0)
+    let (uuid, properties) = and_parts (is_uuid_after before e.uuid) (are_properties_after before e.version e.properties.0)
     (sym (is_next-tests before e) ∙ are_identified-at before e after (ap are_identified (sym is) ∙ identified)) in
     let version : is_version ffa e.version ≡ true =
     list_all-at (λ (x : Endpoint). is_version ffa x.version) before e after (ap (have_versions ffa) (sym is) ∙ versioned) in

@@ -1,6 +1,6 @@
 -- SPDX-License-Identifier: MIT OR Apache-2.0
 -- The endpoints: the normal world, then the partitions.
-use Rattle.std.specs.Prelude.{ℕ, Bool, ◌||◌, ◌==◌, nat_lt, List, [], ◌∷◌, length, replicate, Result, Ok, Err, if◌then◌else◌, codes, bytes_eq}
+use Rattle.std.specs.Prelude.{ℕ, Bool, ◌||◌, ◌==◌, List, [], ◌∷◌, length, replicate, Result, Ok, Err, if◌then◌else◌, codes, bytes_eq}
 use Rattle.uuid.specs.Text.{parsed}
 use Rattle.toml.specs.Data.{Data, Items, Members, as_table}
 use Rattle.ffa_model.specs.declared.limits.TheConstants.{MOST_ENDPOINTS}
@@ -11,7 +11,7 @@ use Rattle.ffa_model.specs.declared.endpoint.Endpoint.{Endpoint}
 use Rattle.ffa_model.specs.declared.manifest.Ffa.{Ffa}
 use Rattle.ffa_model.specs.declared.manifest.Ffa.TheVariants as served
 use Rattle.ffa_model.specs.Bits.{is_set}
-use Rattle.ffa_model.specs.Manifest.{is_nil, regions_of}
+use Rattle.ffa_model.specs.Manifest.{are_properties, is_nil, regions_of}
 use Rattle.ffa_manifest.specs.declared.error.ManifestError.{ManifestError}
 use Rattle.ffa_manifest.specs.declared.error.ManifestError.TheVariants.{WrongKind, EndpointCount, Uuid, Property, Version}
 use Rattle.ffa_manifest.specs.Reading.{◌>>=◌, or_cause, tested, read_each}
@@ -48,13 +48,14 @@ identifier text = do
 unfoldable pub uuid_at : Members → Result (List ℕ) ManifestError
 uuid_at ms = text_at (codes "uuid") ms >>= identifier
 
-unfoldable pub properties_at : Members → Result ℕ ManifestError
-properties_at ms = integer_at (codes "properties") ms >>= tested (λ n. nat_lt n 16) Property
+-- the properties of a partition that is built for this version
+unfoldable pub properties_at : versions.Version → Members → Result ℕ ManifestError
+properties_at version ms = integer_at (codes "properties") ms >>= tested (are_properties version) Property
 
--- the normal world receives neither direct requests nor, from boot, notifications
+-- the normal world has those of FF-A 1.1 in any version, and receives neither direct requests nor, from boot, notifications
 unfoldable pub normal_world_properties : Members → Result ℕ ManifestError
 normal_world_properties ms = do
-  n ← properties_at ms
+  n ← properties_at V1_1 ms
   if is_set 0 n || is_set 3 n then Err Property else Ok n
 
 abbrev pub endpoint_of : versions.Version → List ℕ → ℕ → List Region → Endpoint
@@ -80,7 +81,7 @@ partition ffa is_placed before ms = do
   known ← partition_keys ms
   version ← version_at ffa ms
   uuid ← uuid_at ms
-  properties ← properties_at ms
+  properties ← properties_at version ms
   regions ← regions_at is_placed (regions_of before) ms
   Ok (endpoint_of version uuid properties regions)
 

@@ -11,7 +11,7 @@ use Rattle.ffa_model.specs.declared.manifest.Ffa.{Ffa}
 use Rattle.ffa_model.specs.declared.manifest.Ffa.TheVariants as served
 use Rattle.ffa_model.specs.Bits.{is_set}
 use Rattle.ffa_model.specs.Numbers.{PageIndex}
-use Rattle.ffa_model.specs.Manifest.{has_tables, is_ram_base, is_ram_size, is_from_to, is_nil, is_placed, regions_of}
+use Rattle.ffa_model.specs.Manifest.{has_tables, is_ram_base, is_ram_size, is_from_to, is_nil, is_placed, are_properties, regions_of}
 use Rattle.ffa_manifest.specs.declared.error.ManifestError.{ManifestError}
 use Rattle.ffa_manifest.specs.declared.error.ManifestError.TheVariants.{RamBase, RamBlocks, EndpointCount, Uuid, Property, RegionCount, RegionOutside, RegionOverlap, TablesOutside, Version}
 use Rattle.ffa_manifest.specs.Regions.{is_free}
@@ -50,16 +50,17 @@ have_versions ffa es = list_all (λ (e : Endpoint). is_version ffa e.version) es
 abbrev pub is_uuid_after : List Endpoint → List ℕ → Bool
 is_uuid_after before uuid = if length before == 0 then is_nil uuid else not (is_nil uuid)
 
--- the normal world receives neither direct requests nor, from boot, notifications
-abbrev pub are_properties_after : List Endpoint → ℕ → Bool
-are_properties_after before n = nat_lt n 16 && not (length before == 0 && (is_set 0 n || is_set 3 n))
+-- the normal world receives neither direct requests nor, from boot, notifications, and a partition has those of its version
+abbrev pub are_properties_after : List Endpoint → versions.Version → ℕ → Bool
+are_properties_after before version n =
+    if length before == 0 then nat_lt n 16 && not (is_set 0 n || is_set 3 n) else are_properties version n
 
 -- the tests of an endpoint, after the endpoints before it
 unfoldable pub endpoint_tests : Ffa → (Region → Bool) → List Endpoint → Endpoint → Tests
 endpoint_tests ffa is_placed before e =
     (is_version ffa e.version, Version)
     ∷ (is_uuid_after before e.uuid, Uuid)
-    ∷ (are_properties_after before e.properties.0, Property)
+    ∷ (are_properties_after before e.version e.properties.0, Property)
     ∷ (is_from_to 1 MOST_REGIONS (length e.regions.items), RegionCount)
     ∷ tests_of_each (λ own r. region_tests is_placed (regions_of before ++ own) r) [] e.regions.items
 

@@ -21,7 +21,7 @@ refused_from tests_of_one before (x ∷ xs) =
 -- tested first, or where it has no region
 unfoldable pub region_place : Ffa → (Region → Bool) → List Endpoint → Endpoint → Option ℕ
 region_place ffa is_placed before e =
-    if is_version ffa e.version && (is_uuid_after before e.uuid && are_properties_after before e.properties.0)
+    if is_version ffa e.version && (is_uuid_after before e.uuid && are_properties_after before e.version e.properties.0)
     then refused_from (λ own r. region_tests is_placed (regions_of before ++ own) r) [] e.regions.items
     else None
 

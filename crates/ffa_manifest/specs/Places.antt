@@ -55,7 +55,7 @@ partition_items ffa ms = do
   known ← partition_keys ms
   version ← version_at ffa ms
   uuid ← uuid_at ms
-  properties ← properties_at ms
+  properties ← properties_at version ms
   region_items ms
 
 -- the same of a table after those of these endpoints

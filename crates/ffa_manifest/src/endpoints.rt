@@ -2,6 +2,7 @@
 //! The endpoints of a machine.
 ghost use Rattle.std.specs.Prelude.{◌≡◌, ◌≤◌, ◌||◌, length};
 ghost use Rattle.ffa_model.specs.Bits.{is_set};
+ghost use Rattle.ffa_model.specs.Manifest.{are_properties};
 ghost use Rattle.toml.specs.View.{view, table_view, items_view};
 ghost use Rattle.ffa_manifest.specs.Reading.{Exact};
 ghost use Rattle.ffa_manifest.specs.RegionSpace.{is_in};
@@ -64,12 +65,25 @@ pub(crate) fn uuid_at(table: &Table) -> Result<[u8; 16], ManifestError>
     identifier(text_at(table, "uuid")?)
 }
 
+// Whether a partition that is built for this version may have the properties: bits 3:0, and in FF-A 1.2 also bits 9 and 10, of
+// second direct messages.
+pub(crate) fn are_properties(version: Version, bits: u64) -> bool
+    ensures { result ≡ are_properties version bits }
+{
+    match version {
+        Version::V1_2 => bits < 1 << 11 && (bits >> 4) % 32 == 0,
+        Version::V1_1 | Version::Compact => bits < 16,
+    }
+}
+
 #[tactic(auto, unfolding(crate::specs::Endpoints::properties_at))]
-pub(crate) fn properties_at(table: &Table) -> Result<Properties, ManifestError>
-    ensures { Exact (λ p. p.0) result (properties_in (table_view table.now)) }
+pub(crate) fn properties_at(table: &Table, version: Version) -> Result<Properties, ManifestError>
+    ensures { Exact (λ p. p.0) result (properties_in version (table_view table.now)) }
 {
     match integer_at(table, "properties")? {
-        Some(bits) if bits < 16 => Ok(Properties::from_bits_retain(bits as u32)),
+        Some(bits) if are_properties(version, bits) => Ok(Properties::from_bits_retain(
+            bits as u32,
+        )),
         _ => Err(ManifestError::Property),
     }
 }
@@ -87,7 +101,7 @@ pub(crate) fn receives(properties: Properties) -> bool
 pub(crate) fn normal_world_properties(table: &Table) -> Result<Properties, ManifestError>
     ensures { Exact (λ p. p.0) result (normal_world_properties_in (table_view table.now)) }
 {
-    let properties = properties_at(table)?;
+    let properties = properties_at(table, Version::V1_1)?;
     if receives(properties) {
         Err(ManifestError::Property)
     } else {
@@ -123,7 +137,7 @@ fn partition(
     partition_keys(table)?;
     let version = version_at(table, ffa)?;
     let uuid = uuid_at(table)?;
-    let properties = properties_at(table)?;
+    let properties = properties_at(table, version)?;
     let regions = regions_at(table, space, before)?;
     Ok(Endpoint {
         version,

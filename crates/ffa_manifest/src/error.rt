@@ -34,7 +34,8 @@ pub enum ManifestError {
     /// A UUID can't be read, or it's the Nil UUID, or parts give the normal world another.
     #[error("M9 Uuid")]
     Uuid,
-    /// `properties` isn't from 0 to 15, or the normal world is to receive direct requests or notifications.
+    /// `properties` isn't from 0 to 15, but for bits 9 and 10 of a partition of FF-A 1.2, or the normal world is to receive direct
+    /// requests or notifications.
     #[error("M10 Property")]
     Property,
     /// An endpoint has no region, or more than `MOST_REGIONS`.

@@ -32,7 +32,7 @@ use crate::regions::{
 };
 use crate::text_place::TextPlace;
 use arrayvec::ArrayVec;
-use ffa_model::{Endpoint, EndpointId, Ffa, MOST_ENDPOINTS, MOST_REGIONS, Region};
+use ffa_model::{Endpoint, EndpointId, Ffa, MOST_ENDPOINTS, MOST_REGIONS, Region, Version};
 use std::alloc::{AllocError, Global};
 use std::fmt::InlineText;
 use toml::{Table, Value};
@@ -204,18 +204,26 @@ fn in_partition(
     if partition_keys(table).is_err() {
         return Ok((None, unknown_key(alloc, table, &PARTITION_KEYS)?));
     }
-    if version_at(table, ffa).is_err() {
+    let Ok(version) = version_at(table, ffa) else {
         return Ok((None, at_version(alloc, table, ffa)?));
-    }
+    };
     if uuid_at(table).is_err() {
         let fault = Fault::Words("must be a UUID other than the Nil UUID");
         return Ok((None, at_key(alloc, table, "uuid", fault)?));
     }
-    if properties_at(table).is_err() {
-        let fault = Fault::Words("must be 0 to 15");
+    if properties_at(table, version).is_err() {
+        let fault = Fault::Words(properties_wanted(version));
         return Ok((None, at_key(alloc, table, "properties", fault)?));
     }
     in_regions(alloc, table, space, before)
+}
+
+// Which properties a partition that is built for this version may have.
+fn properties_wanted(version: Version) -> &'static str {
+    match version {
+        Version::V1_2 => "must have only bits 0 to 3, 9 and 10",
+        Version::V1_1 | Version::Compact => "must be 0 to 15",
+    }
 }
 
 // In which of its regions an endpoint's table is refused, where it's in one.

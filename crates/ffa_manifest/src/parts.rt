@@ -8,7 +8,7 @@ ghost use Rattle.ffa_manifest.specs.Document.{parts_of};
 ghost use Rattle.ffa_manifest.specs.RegionSpace.{is_in};
 ghost use Rattle.ffa_manifest.specs.Parts.{parts_from, first_cause, first_failure, tests_of_each, region_tests, endpoint_tests, are_properties_after, have_versions, is_uuid_after, is_version};
 
-use crate::endpoints::receives;
+use crate::endpoints::{are_properties, receives};
 use crate::error::ManifestError;
 use crate::region_space::{RegionSpace, has_tables, is_ram_base, is_ram_size};
 use crate::regions::{is_apart_from_all, is_free};
@@ -43,11 +43,19 @@ pub(crate) fn is_uuid_after(before: &[Endpoint], uuid: &[u8; 16]) -> bool
     }
 }
 
-// Whether an endpoint after these may have the properties.
-pub(crate) fn are_properties_after(before: &[Endpoint], properties: Properties) -> bool
-    ensures { result ≡ are_properties_after before.now properties.0 }
+// Whether an endpoint after these, which is built for this version, may have the properties.
+pub(crate) fn are_properties_after(
+    before: &[Endpoint],
+    version: Version,
+    properties: Properties,
+) -> bool
+    ensures { result ≡ are_properties_after before.now version properties.0 }
 {
-    properties.bits() < 16 && !(before.is_empty() && receives(properties))
+    if before.is_empty() {
+        properties.bits() < 16 && !receives(properties)
+    } else {
+        are_properties(version, u64::from(properties.bits()))
+    }
 }
 
 // A region's place, and whether a region of an endpoint before it or an own one before it has a page of it.
@@ -103,7 +111,7 @@ pub(crate) fn check_endpoint(
     if !is_uuid_after(before, &endpoint.uuid) {
         return Err(ManifestError::Uuid);
     }
-    if !are_properties_after(before, endpoint.properties) {
+    if !are_properties_after(before, endpoint.version, endpoint.properties) {
         return Err(ManifestError::Property);
     }
     if endpoint.regions.is_empty() {

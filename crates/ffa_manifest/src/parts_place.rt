@@ -41,7 +41,7 @@ fn region_place(
     ensures { result ≡ region_place ffa (is_in space.now) before.now endpoint.now }
 {
     let is_named = is_version(ffa, endpoint.version) && is_uuid_after(before, &endpoint.uuid);
-    if !is_named || !are_properties_after(before, endpoint.properties) {
+    if !is_named || !are_properties_after(before, endpoint.version, endpoint.properties) {
         return None;
     }
     refused_region(space, before, endpoint.regions.as_slice())

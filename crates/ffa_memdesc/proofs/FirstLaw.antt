@@ -17,14 +17,17 @@ use Rattle.ffa_model.specs.declared.flaw.RangeFlaw.TheVariants.{Empty, Unaligned
 use Rattle.ffa_model.specs.declared.flaw.RetrieveFlaw.{RetrieveFlaw}
 use Rattle.ffa_model.specs.declared.flaw.RetrieveFlaw.TheVariants.{Attributes as AskedAttributes, Flags as AskedFlags, AccessCount, ReceiverIsAnother, DataPermission, InstructionPermission, PermissionsReserved, AccessFlags as AskedAccessFlags, CompositeTold, AccessReserved as AskedAccessReserved}
 use Rattle.ffa_model.specs.declared.manifest.Ffa.{Ffa}
+use Rattle.ffa_model.specs.declared.manifest.Ffa.TheVariants.{V1_1, V1_2}
 use Rattle.ffa_model.specs.declared.rights.Kind.{Kind}
 use Rattle.ffa_model.specs.declared.transaction.Receiver.{Receiver}
 use Rattle.ffa_model.specs.DescriptorPlaces.{Versioned, access_place, endpoint_field, receiver_count, range_count}
 use Rattle.ffa_model.specs.SendDescriptor.{AreApart, is_named, are_apart, receiver_in, range_in, receivers_in, ranges_in}
-use Rattle.ffa_model.specs.FirstFlaws.{header_flaw, send_header_flaw, access_flaw, composite_flaw, range_flaw, total_flaw, send_flaw, asked_header_flaw, asked_access_flaw, retrieve_flaw, first_of}
-use Rattle.ffa_model.specs.Flaws.{HeaderBreaks, SendHeaderBreaks, AccessBreaks, CompositeBreaks, RangeBreaks, SendBreaks, AskedBreaks, RetrieveBreaks}
+use Rattle.ffa_model.specs.FirstFlaws.{header_flaw, send_header_flaw, access_flaw, composite_flaw, range_flaw, total_flaw, send_flaw, asked_header_flaw, asked_access_flaw, names_flaw, naming_flaw, retrieve_flaw, first_of}
+use Rattle.ffa_model.specs.Lists.{listed}
+use Rattle.ffa_model.specs.RetrieveDescriptor.{endpoint_named, own_index}
+use Rattle.ffa_model.specs.Flaws.{HeaderBreaks, SendHeaderBreaks, AccessBreaks, CompositeBreaks, RangeBreaks, SendBreaks, AskedBreaks, NamingBreaks, RetrieveBreaks}
 use Rattle.std.specs.Option.{option_or}
-use Rattle.std.specs.List.{list_all}
+use Rattle.std.specs.List.{list_all, list_any}
 use Rattle.ffa_memdesc.proofs.Firsts.{or_told, first_told, condition_told, nothing_told}
 use Rattle.ffa_memdesc.proofs.Listed.{some_told, some_not}
 use Rattle.ffa_memdesc.proofs.SendLaw.{grant_again, apart_again}
@@ -124,29 +127,55 @@ send_flaw_breaks ffa kind b flaw =
     (either P _ _ flaw (composite_told P b flaw (λ f x. x))
     (either P _ _ flaw (ranges_told ffa kind b flaw) (total_told P b flaw (λ f x. x))))))
 
-asked_header_told : (P : Flaw → Type 0) (endpoint : ℕ) (b : Versioned) (flaw : Flaw) → ((f : RetrieveFlaw) → AskedBreaks endpoint b f → P (FlawOfRetrieve f)) → Some flaw ≡ asked_header_flaw b → P flaw
+asked_header_told : (P : Flaw → Type 0) (ffa : Ffa) (endpoint : ℕ) (b : Versioned) (flaw : Flaw)
+    → ((i : ℕ) (f : RetrieveFlaw) → AskedBreaks ffa endpoint b f → P (FlawOfRetrieve i f)) → Some flaw ≡ asked_header_flaw ffa b → P flaw
 unfolding asked_header_flaw
-asked_header_told P endpoint b flaw lift e =
-    condition_told P _ _ _ flaw e (λ x. lift AskedAttributes (let (none, normal) = or_parts _ _ x in (eqb-false _ _ none, eqb-false _ _ normal))) (λ e1.
-    condition_told P _ _ _ flaw e1 (λ x. lift AskedFlags (eqb-false _ _ x)) (λ e2.
-    condition_told P _ _ _ flaw e2 (λ x. lift AccessCount (eqb-false _ _ x)) (λ e3.
+asked_header_told P ffa endpoint b flaw lift e =
+    condition_told P _ _ _ flaw e (λ x. lift 0 AskedAttributes (let (none, normal) = or_parts _ _ x in (eqb-false _ _ none, eqb-false _ _ normal))) (λ e1.
+    condition_told P _ _ _ flaw e1 (λ x. lift 0 AskedFlags (eqb-false _ _ x)) (λ e2.
+    condition_told P _ _ _ flaw e2 (λ x. lift 0 AccessCount x) (λ e3.
     nothing_told (P flaw) flaw e3)))
 
-asked_access_told : (P : Flaw → Type 0) (endpoint : ℕ) (b : Versioned) (flaw : Flaw) → ((f : RetrieveFlaw) → AskedBreaks endpoint b f → P (FlawOfRetrieve f)) → Some flaw ≡ asked_access_flaw endpoint b → P flaw
+asked_access_told : (P : Flaw → Type 0) (ffa : Ffa) (endpoint : ℕ) (b : Versioned) (flaw : Flaw)
+    → ((i : ℕ) (f : RetrieveFlaw) → AskedBreaks ffa endpoint b f → P (FlawOfRetrieve i f)) → Some flaw ≡ asked_access_flaw ffa endpoint b → P flaw
 unfolding asked_access_flaw
-asked_access_told P endpoint b flaw lift e =
-    condition_told P _ _ _ flaw e (λ x. lift ReceiverIsAnother (eqb-false _ _ x)) (λ e1.
-    condition_told P _ _ _ flaw e1 (λ x. lift DataPermission (eqb-true _ _ (not-false _ x))) (λ e2.
-    condition_told P _ _ _ flaw e2 (λ x. lift InstructionPermission (eqb-true _ _ (not-false _ x))) (λ e3.
-    condition_told P _ _ _ flaw e3 (λ x. lift PermissionsReserved (eqb-false _ _ x)) (λ e4.
-    condition_told P _ _ _ flaw e4 (λ x. lift AskedAccessFlags (eqb-false _ _ x)) (λ e5.
-    condition_told P _ _ _ flaw e5 (λ x. lift CompositeTold (eqb-false _ _ x)) (λ e6.
-    condition_told P _ _ _ flaw e6 (λ x. lift AskedAccessReserved x) (λ e7.
+asked_access_told P ffa endpoint b flaw lift e =
+    let own = own_index ffa endpoint b in
+    condition_told P _ _ _ flaw e (λ x. lift own ReceiverIsAnother (eqb-false _ _ x)) (λ e1.
+    condition_told P _ _ _ flaw e1 (λ x. lift own DataPermission (eqb-true _ _ (not-false _ x))) (λ e2.
+    condition_told P _ _ _ flaw e2 (λ x. lift own InstructionPermission (eqb-true _ _ (not-false _ x))) (λ e3.
+    condition_told P _ _ _ flaw e3 (λ x. lift own PermissionsReserved (eqb-false _ _ x)) (λ e4.
+    condition_told P _ _ _ flaw e4 (λ x. lift own AskedAccessFlags (eqb-false _ _ x)) (λ e5.
+    condition_told P _ _ _ flaw e5 (λ x. lift own CompositeTold (eqb-false _ _ x)) (λ e6.
+    condition_told P _ _ _ flaw e6 (λ x. lift own AskedAccessReserved x) (λ e7.
     nothing_told (P flaw) flaw e7)))))))
 
-pub retrieve_flaw_breaks : (endpoint : ℕ) (b : Versioned) (flaw : Flaw) → Some flaw ≡ retrieve_flaw endpoint b → RetrieveBreaks endpoint b flaw
+twice_told : (b : Versioned) (i : ℕ) → not (list_any (λ e. eqb e (endpoint_named b i)) (listed i (endpoint_named b))) ≡ false
+    → (j : ℕ) × (j < i) × (endpoint_named b j ≡ endpoint_named b i)
+twice_told b i e =
+    let (j, before, same) = some_told (λ x. eqb x (endpoint_named b i)) (endpoint_named b) i (not-false _ e) in
+    (j, before, eqb-true _ _ same)
+
+naming_told : (P : Flaw → Type 0) (b : Versioned) (i : ℕ) (flaw : Flaw) → ((f : AccessFlaw) → NamingBreaks b i f → P (Access i f)) → Some flaw ≡ naming_flaw b i → P flaw
+unfolding naming_flaw
+naming_told P b i flaw lift e =
+    condition_told P _ _ _ flaw e (λ x. lift AccessFlags (leb-false _ _ x)) (λ e1.
+    condition_told P _ _ _ flaw e1 (λ x. lift OtherComposite (eqb-false _ _ x)) (λ e2.
+    condition_told P _ _ _ flaw e2 (λ x. lift AccessReserved x) (λ e3.
+    condition_told P _ _ _ flaw e3 (λ x. lift ReceiverTwice (twice_told b i x)) (λ e4.
+    nothing_told (P flaw) flaw e4))))
+
+names_told : (ffa : Ffa) (endpoint : ℕ) (b : Versioned) (flaw : Flaw) → Some flaw ≡ names_flaw ffa b → RetrieveBreaks ffa endpoint b flaw
+unfolding names_flaw
+names_told V1_1 endpoint b flaw e = nothing_told (RetrieveBreaks V1_1 endpoint b flaw) flaw e
+names_told V1_2 endpoint b flaw e =
+    let (i, lt, told) = first_told (receiver_count b) (naming_flaw b) flaw e in
+    naming_told (RetrieveBreaks V1_2 endpoint b) b i flaw (λ f breaks. (lt, breaks)) told
+
+pub retrieve_flaw_breaks : (ffa : Ffa) (endpoint : ℕ) (b : Versioned) (flaw : Flaw) → Some flaw ≡ retrieve_flaw ffa endpoint b → RetrieveBreaks ffa endpoint b flaw
 unfolding retrieve_flaw
-retrieve_flaw_breaks endpoint b flaw =
-    let P = RetrieveBreaks endpoint b in
+retrieve_flaw_breaks ffa endpoint b flaw =
+    let P = RetrieveBreaks ffa endpoint b in
     either P _ _ flaw (header_told P b flaw (λ f x. x))
-    (either P _ _ flaw (asked_header_told P endpoint b flaw (λ f x. x)) (asked_access_told P endpoint b flaw (λ f x. x)))
+    (either P _ _ flaw (asked_header_told P ffa endpoint b flaw (λ i f x. x))
+    (either P _ _ flaw (asked_access_told P ffa endpoint b flaw (λ i f x. x)) (names_told ffa endpoint b flaw)))

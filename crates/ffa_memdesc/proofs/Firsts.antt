@@ -17,6 +17,10 @@ pub or_told : {X : Type 0} (o p : Option X) (x : X) → Some x ≡ option_or o p
 or_told None p x e = inr e
 or_told (Some y) p x e = inl e
 
+pub or_none : {X : Type 0} (o p : Option X) → None ≡ option_or o p → (None ≡ o) × (None ≡ p)
+or_none None p e = (refl, e)
+or_none (Some y) p e = absurd (none-some y e)
+
 -- where none of the first n tells a flaw, the one at n is the first
 pub first_none : (n : ℕ) (f : ℕ → Option Flaw) → ((i : ℕ) → i < n → None ≡ f i) → None ≡ first_of n f
 first_none zero f none = refl

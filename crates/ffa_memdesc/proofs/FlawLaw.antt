@@ -15,17 +15,18 @@ use Rattle.ffa_model.specs.declared.flaw.CompositeFlaw.TheVariants.{Unaligned, I
 use Rattle.ffa_model.specs.declared.flaw.RangeFlaw.{RangeFlaw}
 use Rattle.ffa_model.specs.declared.flaw.RangeFlaw.TheVariants.{Empty, Unaligned as RangeUnaligned, TooHigh, Reserved as RangeReserved, Overlap}
 use Rattle.ffa_model.specs.declared.flaw.RetrieveFlaw.{RetrieveFlaw}
-use Rattle.ffa_model.specs.declared.flaw.RetrieveFlaw.TheVariants.{Attributes as AskedAttributes, Flags as AskedFlags, AccessCount, ReceiverIsAnother, DataPermission, InstructionPermission, PermissionsReserved, AccessFlags as AskedAccessFlags, CompositeTold, AccessReserved as AskedAccessReserved}
+use Rattle.ffa_model.specs.declared.flaw.RetrieveFlaw.TheVariants.{Attributes as AskedAttributes, Flags as AskedFlags, AccessCount, ReceiverIsAnother, DataPermission, InstructionPermission, PermissionsReserved, AccessFlags as AskedAccessFlags, CompositeTold, AccessReserved as AskedAccessReserved, NotZero}
 use Rattle.ffa_model.specs.declared.flaw.RelinquishFlaw.TheVariants.{Short as RelinquishShort, Flags as RelinquishFlags, EndpointCount}
 use Rattle.ffa_model.specs.declared.descriptor.RetrieveDesc.{RetrieveDesc}
 use Rattle.ffa_model.specs.declared.descriptor.RelinquishDesc.{RelinquishDesc}
 use Rattle.ffa_model.specs.declared.manifest.Ffa.{Ffa}
+use Rattle.ffa_model.specs.declared.manifest.Ffa.TheVariants.{V1_1, V1_2}
 use Rattle.ffa_model.specs.declared.rights.Kind.{Kind}
-use Rattle.ffa_model.specs.DescriptorPlaces.{Versioned, IsHeader, flags_field, kind_code}
+use Rattle.ffa_model.specs.DescriptorPlaces.{Versioned, IsHeader, flags_field, kind_code, receiver_count}
 use Rattle.ffa_model.specs.SendDescriptor.{Send, SendRecord}
-use Rattle.ffa_model.specs.RetrieveDescriptor.{Retrieve}
+use Rattle.ffa_model.specs.RetrieveDescriptor.{AreNaming, HasNames, Retrieve}
 use Rattle.ffa_model.specs.RelinquishDescriptor.{Relinquish}
-use Rattle.ffa_model.specs.Flaws.{HeaderBreaks, SendHeaderBreaks, CompositeBreaks, SendBreaks, AskedBreaks, RetrieveBreaks, RelinquishBreaks}
+use Rattle.ffa_model.specs.Flaws.{HeaderBreaks, SendHeaderBreaks, CompositeBreaks, SendBreaks, AskedBreaks, NamesBreak, NamingBreaks, RetrieveBreaks, RelinquishBreaks}
 use Rattle.ffa_memdesc.proofs.RetrieveLaw.{flags_again, kind_code_few, not_reserved, data_code_few}
 
 header_breaks : (b : Versioned) (flaw : HeaderFlaw) → HeaderBreaks b flaw → IsHeader b → ⊥
@@ -78,22 +79,35 @@ send_breaks ffa kind b (Composite flaw) r broken h = composite_breaks ffa kind b
 send_breaks ffa kind b (FlawOfRange i flaw) r broken h = range_breaks ffa kind b i flaw r broken h
 send_breaks ffa kind b _ r broken h = broken
 
-asked_breaks : (e : ℕ) (b : Versioned) (flaw : RetrieveFlaw) (r : RetrieveDesc) → AskedBreaks e b flaw → Retrieve e b r → ⊥
-asked_breaks e b AskedAttributes r (none, normal) h = elim h.attributes [ inl a ↦ none a | inr a ↦ normal a ]
-asked_breaks e b AskedFlags r broken h = broken (flags_again (flags_field b) (kind_code r.kind) (kind_code_few r.kind) h.kind)
-asked_breaks e b AccessCount r broken h = broken h.one
-asked_breaks e b ReceiverIsAnother r broken h = broken h.caller
-asked_breaks e b DataPermission r broken h = not_reserved _ _ (data_code_few r.level) h.level broken
-asked_breaks e b InstructionPermission r broken h = h.known_exec broken
-asked_breaks e b PermissionsReserved r broken h = broken h.no_more
-asked_breaks e b AskedAccessFlags r broken h = broken h.access_flags
-asked_breaks e b CompositeTold r broken h = broken h.composite
-asked_breaks e b AskedAccessReserved r broken h = both_ways _ broken h.access_reserved
+asked_breaks : (ffa : Ffa) (e : ℕ) (b : Versioned) (flaw : RetrieveFlaw) (r : RetrieveDesc) → AskedBreaks ffa e b flaw → Retrieve ffa e b r → ⊥
+asked_breaks ffa e b AskedAttributes r (none, normal) h = elim h.attributes [ inl a ↦ none a | inr a ↦ normal a ]
+asked_breaks ffa e b AskedFlags r broken h = broken (flags_again ffa (flags_field b) (kind_code r.kind) (kind_code_few r.kind) h.kind)
+asked_breaks ffa e b AccessCount r broken h = both_ways _ broken h.count
+asked_breaks ffa e b ReceiverIsAnother r broken h = broken h.caller
+asked_breaks ffa e b DataPermission r broken h = not_reserved _ _ (data_code_few r.level) h.level broken
+asked_breaks ffa e b InstructionPermission r broken h = h.known_exec broken
+asked_breaks ffa e b PermissionsReserved r broken h = broken h.no_more
+asked_breaks ffa e b AskedAccessFlags r broken h = broken h.access_flags
+asked_breaks ffa e b CompositeTold r broken h = broken h.composite
+asked_breaks ffa e b AskedAccessReserved r broken h = both_ways _ broken h.access_reserved
+asked_breaks ffa e b NotZero r broken h = broken
 
-pub retrieve_breaks : (e : ℕ) (b : Versioned) (flaw : Flaw) (r : RetrieveDesc) → RetrieveBreaks e b flaw → Retrieve e b r → ⊥
-retrieve_breaks e b (Header flaw) r broken h = header_breaks b flaw broken h.header
-retrieve_breaks e b (FlawOfRetrieve flaw) r broken h = asked_breaks e b flaw r broken h
-retrieve_breaks e b _ r broken h = broken
+naming_breaks : (b : Versioned) (i : ℕ) (flaw : AccessFlaw) → i < receiver_count b → NamingBreaks b i flaw → AreNaming b → ⊥
+naming_breaks b i AccessFlags lt broken h = let few = (h.each i lt).flags in omega arith
+naming_breaks b i OtherComposite lt broken h = broken (h.each i lt).composite
+naming_breaks b i AccessReserved lt broken h = both_ways _ broken (h.each i lt).reserved
+naming_breaks b i ReceiverTwice lt (j, before, same) h = h.distinct i j before lt same
+naming_breaks b i _ lt broken h = broken
+
+names_break : (ffa : Ffa) (b : Versioned) (i : ℕ) (flaw : AccessFlaw) → NamesBreak ffa b i flaw → HasNames ffa b → ⊥
+names_break V1_1 b i flaw broken h = broken
+names_break V1_2 b i flaw (lt, broken) h = naming_breaks b i flaw lt broken h
+
+pub retrieve_breaks : (ffa : Ffa) (e : ℕ) (b : Versioned) (flaw : Flaw) (r : RetrieveDesc) → RetrieveBreaks ffa e b flaw → Retrieve ffa e b r → ⊥
+retrieve_breaks ffa e b (Header flaw) r broken h = header_breaks b flaw broken h.header
+retrieve_breaks ffa e b (FlawOfRetrieve i flaw) r broken h = asked_breaks ffa e b flaw r broken h
+retrieve_breaks ffa e b (Access i flaw) r broken h = names_break ffa b i flaw broken h.names
+retrieve_breaks ffa e b _ r broken h = broken
 
 pub relinquish_breaks : (b : List ℕ) (flaw : Flaw) (r : RelinquishDesc) → RelinquishBreaks b flaw → Relinquish b r → ⊥
 relinquish_breaks b (FlawOfRelinquish RelinquishShort) r broken h = let whole = h.whole in omega arith

@@ -1,20 +1,22 @@
 -- SPDX-License-Identifier: MIT OR Apache-2.0
 -- FOR PROOFS ALONE
 -- What the parts of a reader answer.
-use Rattle.std.specs.Prelude.{ℕ, ◌+◌, ◌*◌, ◌%◌, ◌^◌, ◌==◌, Bool, not, ◌&&◌, nat_le, if◌then◌else◌, List, [], ◌∷◌, length, Option, Some, None}
+use Rattle.std.specs.Prelude.{ℕ, ◌+◌, ◌*◌, ◌%◌, ◌^◌, ◌==◌, Bool, not, ◌&&◌, nat_le, if◌then◌else◌, List, [], ◌∷◌, length, Option, Some, None, position, unwrap_or}
 use Rattle.ffa_model.specs.declared.flaw.Flaw.{Flaw}
 use Rattle.ffa_model.specs.declared.flaw.Flaw.TheVariants.{Access as FlawOfAccess, Composite as FlawOfComposite, Range as FlawOfRange}
 use Rattle.ffa_model.specs.declared.flaw.AccessFlaw.TheVariants.{Permissions, Flags, OtherComposite, Reserved as AccessReserved, ReceiverIsSender, ReceiverTwice}
 use Rattle.ffa_model.specs.declared.flaw.CompositeFlaw.TheVariants.{Outside, Unaligned, InArray, NoRange, ManyRanges, Reserved as CompositeReserved, RangesOutside}
 use Rattle.ffa_model.specs.declared.flaw.RangeFlaw.TheVariants.{Empty, Unaligned as RangeUnaligned, TooHigh, Reserved as RangeReserved, Overlap}
 use Rattle.ffa_model.specs.declared.limits.TheConstants.{MOST_RANGES}
+use Rattle.ffa_model.specs.declared.manifest.Ffa.{Ffa}
+use Rattle.ffa_model.specs.declared.manifest.Ffa.TheVariants.{V1_1, V1_2}
 use Rattle.ffa_model.specs.declared.rights.Kind.{Kind}
 use Rattle.ffa_model.specs.declared.transaction.Receiver.{Receiver}
 use Rattle.ffa_model.specs.declared.transaction.Range.{Range}
-use Rattle.std.specs.List.{list_all}
+use Rattle.std.specs.List.{list_all, list_any}
 use Rattle.ffa_model.specs.Lists.{listed}
 use Rattle.ffa_model.specs.DescriptorPlaces.{Versioned, sender_field, attributes_field, flags_field, handle_field, tag_field, receiver_count, array_place, endpoint_field, permissions_field, access_flags_field, composite_field, accesses_size, is_access_rest_zero, u32_at, u64_at}
-use Rattle.ffa_model.specs.FirstFlaws.{first_broken}
+use Rattle.ffa_model.specs.FirstFlaws.{first_broken, first_of}
 use Rattle.ffa_model.specs.SendDescriptor.{is_grant, is_named, receiver_at, is_range, are_apart, range_at, range_end, holds_at_each}
 use Rattle.ffa_memdesc.specs.declared.header.Header.{Header}
 use Rattle.ffa_memdesc.specs.declared.access.Access.{Access}
@@ -72,6 +74,17 @@ receivers_of kind sender composite b array n =
     if holds_at_each (is_receiver_after kind sender composite b array) n
     then Some (listed n (receiver_after b array)) else None
 
+-- the endpoint that access descriptor i of an array names, and the index of the first of so many that names one, or 0
+abbrev pub named_after : Versioned → ℕ → ℕ → ℕ
+named_after b array i = endpoint_field b.bytes (array + accesses_size b.version i)
+
+abbrev pub index_after : ℕ → Versioned → ℕ → ℕ → ℕ
+index_after endpoint b array count = unwrap_or (position (λ e. e == endpoint) (listed count (named_after b array))) 0
+
+abbrev pub own_index_after : Ffa → ℕ → Versioned → ℕ → ℕ → ℕ
+own_index_after V1_1 endpoint b array count = 0
+own_index_after V1_2 endpoint b array count = index_after endpoint b array count
+
 -- how many ranges a composite has that stands behind the array's end and inside the bytes
 unfoldable pub range_count_of : List ℕ → ℕ → ℕ → Option ℕ
 range_count_of b end composite =
@@ -118,6 +131,19 @@ access_flaw_at kind sender composite b at earlier i =
 abbrev pub access_flaw_after : Kind → ℕ → ℕ → Versioned → ℕ → ℕ → Option Flaw
 access_flaw_after kind sender composite b array i =
     access_flaw_at kind sender composite b (array + accesses_size b.version i) (listed i (receiver_after b array)) i
+
+-- of access descriptor i of a retrieve
+unfoldable pub naming_flaw_at : Versioned → ℕ → ℕ → Option Flaw
+naming_flaw_at b array i =
+    first_broken ((nat_le (access_flags_field b.bytes (array + accesses_size b.version i)) 1, FlawOfAccess i Flags)
+    ∷ (composite_field b.bytes (array + accesses_size b.version i) == 0, FlawOfAccess i OtherComposite)
+    ∷ (is_access_rest_zero b.version b.bytes (array + accesses_size b.version i), FlawOfAccess i AccessReserved)
+    ∷ (not (list_any (λ e. e == named_after b array i) (listed i (named_after b array))), FlawOfAccess i ReceiverTwice)
+    ∷ [])
+
+abbrev pub names_flaw_after : Ffa → Versioned → ℕ → ℕ → Option Flaw
+names_flaw_after V1_1 b array count = None
+names_flaw_after V1_2 b array count = first_of count (naming_flaw_at b array)
 
 -- of a composite, without its ranges and the sum of these
 unfoldable pub composite_flaw_at : List ℕ → ℕ → ℕ → Option Flaw

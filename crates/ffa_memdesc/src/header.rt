@@ -70,7 +70,7 @@ pub fn told_access_size(version: Version) -> u32
 }
 
 /// The place of the first access descriptor.
-fn read_array<B: Bytes>(bytes: &B, version: Version) -> u32
+pub fn read_array<B: Bytes>(bytes: &B, version: Version) -> u32
     requires { header_size version ≤ length (B.bytes bytes.now) }
     ensures { result ≡ array_in version (B.bytes bytes.now) }
 {

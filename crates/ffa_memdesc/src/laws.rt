@@ -18,18 +18,18 @@ ghost use Rattle.ffa_model.specs.declared.rights.Kind.{Kind};
 /// that one. Where bytes break a condition, they fit none.
 pub fn one_record()
     ensures one_send { (ffa : Ffa) (kind : Kind) (b : Versioned) (r s : SendRecord) → Send ffa kind b r → Send ffa kind b s → r ≡ s }
-    ensures one_retrieve { (e : ℕ) (b : Versioned) (r s : RetrieveDesc) → Retrieve e b r → Retrieve e b s → r ≡ s }
+    ensures one_retrieve { (ffa : Ffa) (e : ℕ) (b : Versioned) (r s : RetrieveDesc) → Retrieve ffa e b r → Retrieve ffa e b s → r ≡ s }
     ensures one_relinquish { (b : List ℕ) (r s : RelinquishDesc) → Relinquish b r → Relinquish b s → r ≡ s }
 
     ensures broken_send { (ffa : Ffa) (kind : Kind) (b : Versioned) (flaw : Flaw) (r : SendRecord)
         → SendBreaks ffa kind b flaw → Send ffa kind b r → ⊥ }
-    ensures broken_retrieve { (e : ℕ) (b : Versioned) (flaw : Flaw) (r : RetrieveDesc)
-        → RetrieveBreaks e b flaw → Retrieve e b r → ⊥ }
+    ensures broken_retrieve { (ffa : Ffa) (e : ℕ) (b : Versioned) (flaw : Flaw) (r : RetrieveDesc)
+        → RetrieveBreaks ffa e b flaw → Retrieve ffa e b r → ⊥ }
     ensures broken_relinquish { (b : List ℕ) (flaw : Flaw) (r : RelinquishDesc)
         → RelinquishBreaks b flaw → Relinquish b r → ⊥ }
 
     ensures send { (ffa : Ffa) (kind : Kind) (b : Versioned) (r : SendRecord) → Send ffa kind b r ↔ (send_of ffa kind b ≡ Some r) }
-    ensures retrieve { (e : ℕ) (b : Versioned) (r : RetrieveDesc) → Retrieve e b r ↔ (retrieve_of e b ≡ Some r) }
+    ensures retrieve { (ffa : Ffa) (e : ℕ) (b : Versioned) (r : RetrieveDesc) → Retrieve ffa e b r ↔ (retrieve_of ffa e b ≡ Some r) }
     ensures relinquish { (b : List ℕ) (r : RelinquishDesc) → Relinquish b r ↔ (relinquish_of b ≡ Some r) }
 {}
 

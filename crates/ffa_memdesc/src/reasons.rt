@@ -139,22 +139,23 @@ fn range_flaw_place(at: u64, flaw: RangeFlaw) -> FieldPlace
     }
 }
 
-/// By the place of the one access descriptor.
-fn retrieve_flaw_place(version: Version, array: u64, flaw: RetrieveFlaw) -> FieldPlace
-    requires { array ≤ 2 ^ 40 }
-    ensures { result ≡ retrieve_flaw_place version array flaw }
+/// By the place of the caller's access descriptor.
+fn retrieve_flaw_place(version: Version, own: u64, flaw: RetrieveFlaw) -> FieldPlace
+    requires { own ≤ 2 ^ 40 }
+    ensures { result ≡ retrieve_flaw_place version own flaw }
 {
     match flaw {
         RetrieveFlaw::Attributes => field(2, 2),
         RetrieveFlaw::Flags => field(4, 4),
         RetrieveFlaw::AccessCount => field(28, 4),
-        RetrieveFlaw::ReceiverIsAnother => field(array, 2),
+        RetrieveFlaw::ReceiverIsAnother => field(own, 2),
         RetrieveFlaw::DataPermission
         | RetrieveFlaw::InstructionPermission
-        | RetrieveFlaw::PermissionsReserved => field(array + 2, 1),
-        RetrieveFlaw::AccessFlags => field(array + 3, 1),
-        RetrieveFlaw::CompositeTold => field(array + 4, 4),
-        RetrieveFlaw::AccessReserved => access_rest_field(version, array),
+        | RetrieveFlaw::PermissionsReserved => field(own + 2, 1),
+        RetrieveFlaw::AccessFlags => field(own + 3, 1),
+        RetrieveFlaw::CompositeTold => field(own + 4, 4),
+        RetrieveFlaw::AccessReserved => access_rest_field(version, own),
+        RetrieveFlaw::NotZero => field(0, header_size(version) as u64),
     }
 }
 
@@ -201,7 +202,9 @@ pub fn flaw_place<B: Bytes>(bytes: &B, version: Version, flaw: Flaw) -> FieldPla
         }
         Flaw::Composite(flaw) => composite_flaw_place(array, composite, flaw),
         Flaw::Range(i, flaw) => range_flaw_place(range_place(composite, i), flaw),
-        Flaw::Retrieve(flaw) => retrieve_flaw_place(version, array, flaw),
+        Flaw::Retrieve(i, flaw) => {
+            retrieve_flaw_place(version, access_place(version, array, i), flaw)
+        }
         Flaw::Relinquish(flaw) => relinquish_flaw_place(flaw),
     }
 }

@@ -1,23 +1,29 @@
 // SPDX-License-Identifier: MIT OR Apache-2.0
 //! Retrieve descriptors.
 
-ghost use Rattle.std.specs.Prelude.{◌≡◌, true, Some, IfOk, IfErr, OnOk, OnErr};
+ghost use Rattle.std.specs.Prelude.{◌≡◌, ◌≤◌, true, Some, IfOk, IfErr, OnOk, OnErr};
 ghost use Rattle.std.specs.Option.{option_map};
 ghost use Rattle.std.specs.Result.{result_ok, result_err};
+ghost use Rattle.ffa_model.specs.declared.limits.TheConstants.{MOST_RECEIVERS};
+ghost use Rattle.ffa_model.specs.declared.manifest.Ffa.{Ffa};
 ghost use Rattle.ffa_model.specs.Bits.{bits};
-ghost use Rattle.ffa_model.specs.DescriptorPlaces.{Versioned, array_place, in_version, kind_of};
+ghost use Rattle.ffa_model.specs.DescriptorPlaces.{Versioned, in_version, kind_of};
 ghost use Rattle.ffa_model.specs.FirstFlaws.{asked_header_flaw, asked_access_flaw, retrieve_flaw};
 ghost use Rattle.ffa_model.specs.Flaws.{RetrieveBreaks};
-ghost use Rattle.ffa_model.specs.RetrieveDescriptor.{Retrieve, retrieve_of, is_retrieve_header, is_retrieve_access};
+ghost use Rattle.ffa_model.specs.RetrieveDescriptor.{Retrieve, flags_but_alone, is_named_count, is_retrieve_access, is_retrieve_header, own_index, own_place, retrieve_of};
 ghost use Rattle.ffa_model.specs.declared.descriptor.RetrieveDesc.{RetrieveDesc};
 ghost use Rattle.ffa_model.specs.declared.flaw.Flaw.TheVariants.{Retrieve as FlawOfRetrieve};
 ghost use Rattle.ffa_memdesc.specs.Reading.{header_in, access_in};
 
 use crate::access::{Access, read_access};
 use crate::bytes::Bytes;
-use crate::header::{Header, NORMAL_MEMORY, read_header};
+use crate::header::{Header, NORMAL_MEMORY, accesses_size, read_header};
+use crate::names::{check_names, own_index};
 use crate::receivers::data_of;
-use ffa_model::{EndpointId, Flaw, Kind, RetrieveDesc, RetrieveFlaw, Version};
+use ffa_model::{EndpointId, Ffa, Flaw, Kind, MOST_RECEIVERS, RetrieveDesc, RetrieveFlaw, Version};
+
+// Bit 10 of the flags, by which the caller names itself alone.
+const ALONE: u32 = 1 << 10;
 
 /// Bits 4:3 of the flags, which tell the kind.
 fn kind_of(flags: u32) -> Option<Kind>
@@ -31,20 +37,50 @@ fn kind_of(flags: u32) -> Option<Kind>
     }
 }
 
+/// The flags without the one by which the caller names itself alone in FF-A 1.2.
+fn flags_but_alone(ffa: Ffa, flags: u32) -> u32
+    ensures { result ≡ flags_but_alone ffa flags }
+{
+    if ffa == Ffa::V1_2 && flags >> 10 & 1 == 1 {
+        flags.saturating_sub(ALONE)
+    } else {
+        flags
+    }
+}
+
+/// Whether a retrieve with these flags may have so many access descriptors.
+fn is_named_count(ffa: Ffa, flags: u32, count: u32) -> bool
+    ensures { result ≡ is_named_count ffa flags count }
+{
+    match ffa {
+        Ffa::V1_1 => count == 1,
+        Ffa::V1_2 => {
+            let most = if flags >> 10 & 1 == 1 {
+                1
+            } else {
+                MOST_RECEIVERS as u32
+            };
+            1 <= count && count <= most
+        }
+    }
+}
+
 /// Whether the header is that of a retrieve.
 #[tactic(auto, unfolding(ffa_model::specs::RetrieveDescriptor::is_retrieve_header, ffa_model::specs::FirstFlaws::asked_header_flaw))]
-fn check_header(header: &Header) -> Result<(), RetrieveFlaw>
-    ensures fits { (b : Versioned) → header.now ≡ header_in b → OnOk result (is_retrieve_header b ≡ true) }
-    ensures first { let broken = option_map (λ flaw. FlawOfRetrieve flaw) (result_err result) in
-        (b : Versioned) → header.now ≡ header_in b → broken ≡ asked_header_flaw b }
+fn check_header(ffa: Ffa, header: &Header) -> Result<(), RetrieveFlaw>
+    ensures fits { (b : Versioned) → header.now ≡ header_in b → OnOk result (is_retrieve_header ffa b ≡ true) }
+    ensures few { OnOk result (header.now.count ≤ MOST_RECEIVERS) }
+    ensures some { OnOk result (1 ≤ header.now.count) }
+    ensures first { let broken = option_map (λ flaw. FlawOfRetrieve 0 flaw) (result_err result) in
+        (b : Versioned) → header.now ≡ header_in b → broken ≡ asked_header_flaw ffa b }
 {
     if header.attributes != 0 && header.attributes != NORMAL_MEMORY {
         return Err(RetrieveFlaw::Attributes);
     }
-    if header.flags & 7 != 0 || header.flags >> 5 != 0 {
+    if flags_but_alone(ffa, header.flags) != 8 * (header.flags >> 3 & 3) {
         return Err(RetrieveFlaw::Flags);
     }
-    if header.count != 1 {
+    if !is_named_count(ffa, header.flags, header.count) {
         return Err(RetrieveFlaw::AccessCount);
     }
     Ok(())
@@ -53,10 +89,11 @@ fn check_header(header: &Header) -> Result<(), RetrieveFlaw>
 /// Whether the access descriptor is that of a retrieve for this endpoint.
 #[tactic(auto, unfolding(ffa_model::specs::RetrieveDescriptor::is_retrieve_access, ffa_model::specs::FirstFlaws::asked_access_flaw))]
 fn check_access(endpoint: EndpointId, access: &Access) -> Result<(), RetrieveFlaw>
-    ensures fits { (b : Versioned) → access.now ≡ access_in b (array_place b)
-        → OnOk result (is_retrieve_access endpoint.0 b ≡ true) }
-    ensures first { let broken = option_map (λ flaw. FlawOfRetrieve flaw) (result_err result) in
-        (b : Versioned) → access.now ≡ access_in b (array_place b) → broken ≡ asked_access_flaw endpoint.0 b }
+    ensures fits { (ffa : Ffa) (b : Versioned) → access.now ≡ access_in b (own_place ffa endpoint.0 b)
+        → OnOk result (is_retrieve_access ffa endpoint.0 b ≡ true) }
+    ensures first { (ffa : Ffa) (b : Versioned) → access.now ≡ access_in b (own_place ffa endpoint.0 b)
+        → option_map (λ flaw. FlawOfRetrieve (own_index ffa endpoint.0 b) flaw) (result_err result)
+        ≡ asked_access_flaw ffa endpoint.0 b }
 {
     if access.endpoint.0 != endpoint.0 {
         return Err(RetrieveFlaw::ReceiverIsAnother);
@@ -84,23 +121,27 @@ fn check_access(endpoint: EndpointId, access: &Access) -> Result<(), RetrieveFla
 
 fn retrieve_in<B: Bytes>(
     bytes: &B,
+    ffa: Ffa,
     version: Version,
     endpoint: EndpointId,
 ) -> Result<RetrieveDesc, Flaw>
-    ensures found { IfOk result (λ d. Some d ≡ retrieve_of endpoint.0 (in_version version (B.bytes bytes.now))) }
-    ensures first { result_err result ≡ retrieve_flaw endpoint.0 (in_version version (B.bytes bytes.now)) }
+    ensures found { IfOk result (λ d. Some d ≡ retrieve_of ffa endpoint.0 (in_version version (B.bytes bytes.now))) }
+    ensures first { result_err result ≡ retrieve_flaw ffa endpoint.0 (in_version version (B.bytes bytes.now)) }
 {
     let header = match read_header(bytes, version) {
         Ok(header) => header,
         Err(flaw) => return Err(Flaw::Header(flaw)),
     };
-    if let Err(flaw) = check_header(&header) {
-        return Err(Flaw::Retrieve(flaw));
+    if let Err(flaw) = check_header(ffa, &header) {
+        return Err(Flaw::Retrieve(0, flaw));
     }
-    let access = read_access(bytes, version, header.array as usize);
+    let own = own_index(bytes, ffa, version, endpoint, &header);
+    let at = header.array as usize + accesses_size(version, own) as usize;
+    let access = read_access(bytes, version, at);
     if let Err(flaw) = check_access(endpoint, &access) {
-        return Err(Flaw::Retrieve(flaw));
+        return Err(Flaw::Retrieve(own, flaw));
     }
+    check_names(bytes, ffa, version, &header)?;
     Ok(RetrieveDesc {
         sender: header.sender,
         handle: header.handle,
@@ -111,19 +152,20 @@ fn retrieve_in<B: Bytes>(
     })
 }
 
-/// What the bytes say, wherever they lie, as a retrieve descriptor for this endpoint, which has this version.
-/// An error is the first condition of these that they break.
+/// What the bytes say, wherever they lie, as a retrieve descriptor for this endpoint, which has this version, on a machine of this
+/// FF-A. An error is the first condition of these that they break.
 pub fn read_retrieve<B: Bytes>(
     bytes: &B,
+    ffa: Ffa,
     version: Version,
     endpoint: EndpointId,
 ) -> Result<RetrieveDesc, Flaw>
-    ensures found { IfOk result (λ d. Retrieve endpoint.0 (in_version version (B.bytes bytes.now)) d) }
+    ensures found { IfOk result (λ d. Retrieve ffa endpoint.0 (in_version version (B.bytes bytes.now)) d) }
     ensures none { let described = in_version version (B.bytes bytes.now) in
-        OnErr result ((r : RetrieveDesc) → Retrieve endpoint.0 described r → ⊥) }
-    ensures computed { result_ok result ≡ retrieve_of endpoint.0 (in_version version (B.bytes bytes.now)) }
-    ensures broken { IfErr result (RetrieveBreaks endpoint.0 (in_version version (B.bytes bytes.now))) }
-    ensures first { result_err result ≡ retrieve_flaw endpoint.0 (in_version version (B.bytes bytes.now)) }
+        OnErr result ((r : RetrieveDesc) → Retrieve ffa endpoint.0 described r → ⊥) }
+    ensures computed { result_ok result ≡ retrieve_of ffa endpoint.0 (in_version version (B.bytes bytes.now)) }
+    ensures broken { IfErr result (RetrieveBreaks ffa endpoint.0 (in_version version (B.bytes bytes.now))) }
+    ensures first { result_err result ≡ retrieve_flaw ffa endpoint.0 (in_version version (B.bytes bytes.now)) }
 {
-    retrieve_in(bytes, version, endpoint)
+    retrieve_in(bytes, ffa, version, endpoint)
 }

@@ -27,7 +27,7 @@ pub returns-clause-send : goal.returns-clause-send
 returns-clause-send c = λ ffa kind b r. (send_again ffa kind b r, send_told ffa kind b r)
 
 pub returns-clause-retrieve : goal.returns-clause-retrieve
-returns-clause-retrieve c = λ e b r. (retrieve_again e b r, retrieve_told e b r)
+returns-clause-retrieve c = λ ffa e b r. (retrieve_again ffa e b r, retrieve_told ffa e b r)
 
 pub returns-clause-relinquish : goal.returns-clause-relinquish
 returns-clause-relinquish c = λ b r. (relinquish_again b r, relinquish_told b r)

@@ -1,7 +1,7 @@
 -- SPDX-License-Identifier: MIT OR Apache-2.0
 use Rattle.std.proofs.Common.{◌≡◌, ℕ, ◌++◌, ◌+◌, [], ◌∷◌, refl, subst, arith}
 use Rattle.ffa_model.specs.DescriptorPlaces.{accesses_size, header_size}
-use Rattle.ffa_model.specs.ResponseBytes.{le, permissions_of}
+use Rattle.ffa_model.specs.ResponseBytes.{le}
 use Rattle.ffa_memdesc.specs.Writing.{Wrote}
 use Rattle.ffa_memdesc.proofs.Writes.{one, two, four, wrote_as, five_parts}
 use Rattle.ffa_memdesc.proofs.respond.write_access.Goals as goal
@@ -11,12 +11,11 @@ returns c = λ old front w0.
     let at = c.args.at in
     let w1 = two _ _ _ _ at (at + 2) _ refl w0 c.put_u16.ensures in
     let w2 = one _ _ _ _ (at + 2) (at + 3) _ (omega arith) w1 c.put_u8.ensures in
-    let permissions = subst (λ (x : ℕ). Wrote old ((front ++ le 2 c.args.response.now.endpoint.0) ++ x ∷ []) (at + 3) c.put_u8.new.out) c.permissions_of.ensures w2 in
-    let w3 = one _ _ _ _ (at + 3) (at + 4) _ (omega arith) permissions c.put_u8-2.ensures in
+    let w3 = one _ _ _ _ (at + 3) (at + 4) _ (omega arith) w2 c.put_u8-2.ensures in
     let w4 = four _ _ _ _ (at + 4) (at + 8) _ (omega arith) w3 c.put_u32.ensures in
-    let place = c.requires.place in
+    let header = c.header_size.ensures.value in
     let size = c.accesses_size.ensures.value in
-    let composite : c.args.at + c.accesses_size.result ≡ header_size c.args.version + accesses_size c.args.version 1 = omega arith in
-    let told = subst (λ (x : ℕ). Wrote old ((((front ++ le 2 c.args.response.now.endpoint.0) ++ permissions_of c.args.response.now.rights ∷ []) ++ 0 ∷ []) ++ le 4 x) (at + 8) c.put_u32.new.out) composite w4 in
+    let composite : c.header_size.result + c.accesses_size.result ≡ header_size c.args.version + accesses_size c.args.version c.args.count = omega arith in
+    let told = subst (λ (x : ℕ). Wrote old ((((front ++ le 2 c.args.endpoint.0) ++ c.args.permissions ∷ []) ++ 0 ∷ []) ++ le 4 x) (at + 8) c.put_u32.new.out) composite w4 in
     let w5 = c.write_access_rest.ensures old _ told in
-    wrote_as _ _ _ _ _ (five_parts front (le 2 c.args.response.now.endpoint.0) _ _ _ _) w5
+    wrote_as _ _ _ _ _ (five_parts front (le 2 c.args.endpoint.0) _ _ _ _) w5
