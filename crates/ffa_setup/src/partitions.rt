@@ -1,20 +1,26 @@
 // SPDX-License-Identifier: MIT OR Apache-2.0
 //! Partition information (DEN0077A, 13).
-ghost use Rattle.std.specs.Prelude.{◌≡◌, ◌+◌, ◌<◌, ◌≤◌, ◌||◌, ◌++◌, length, map};
+ghost use Rattle.std.specs.Prelude.{◌≡◌, ◌+◌, ◌<◌, ◌≤◌, ◌^◌, ◌||◌, ◌++◌, length, map, replicate, if◌then◌else◌};
+ghost use Rattle.byteorder.specs.Endian.{little_bytes};
 ghost use Rattle.ffa_model.specs.First.{party_of};
+ghost use Rattle.ffa_model.specs.Identifiers.{identifier};
 ghost use Rattle.ffa_model.specs.Manifest as model;
-ghost use Rattle.ffa_model.specs.Setup.{info_bytes, info_of, told_info_size, is_any, is_selected, selected, uuid_bytes};
+ghost use Rattle.ffa_model.specs.declared.refusal.Refusal.{Refusal};
+ghost use Rattle.ffa_model.specs.Setup.{info_bytes, info_of, needs_buffers, properties_told, told_info_size, is_any, is_selected, selected, uuid_bytes};
 
 use arrayvec::ArrayVec;
 use bitflags::Flags;
 use byteorder::{ByteOrder, LittleEndian};
-use ffa_model::{Endpoint, EndpointId, MOST_ENDPOINTS, Manifest, Version};
+use ffa_model::{Endpoint, EndpointId, Ffa, MOST_ENDPOINTS, Manifest, Refusal, Version};
 
 /// The bit of a partition's properties that says that it runs in AArch64.
 const AARCH64: u32 = 0x100;
 
 /// The bits of a partition's properties that say which messages it receives and sends.
 const OF_MESSAGES: u32 = 7;
+
+/// The bits of a partition's properties that FF-A 1.1 has, but for the bit that says that it runs in AArch64.
+const OF_FFA_1_1: u32 = 15;
 
 /// How many execution contexts each partition has.
 const CONTEXTS: u16 = 1;
@@ -75,11 +81,21 @@ pub fn is_recognized(manifest: &Manifest, uuid: [u32; 4]) -> bool
     is_nil(uuid) || count(manifest, uuid) != 0
 }
 
+/// The check of FFA_PARTITION_INFO_GET that fails where the caller has no buffers for what it asks (DEN0077A, 13.8): FF-A 1.2 has an
+/// error code of its own for that.
+pub fn missing_buffers(ffa: Ffa) -> Refusal
+    ensures { result ≡ (if needs_buffers ffa then Refusal.BuffersNeeded else Refusal.BuffersMissing) }
+{
+    match ffa {
+        Ffa::V1_1 => Refusal::BuffersMissing,
+        Ffa::V1_2 => Refusal::BuffersNeeded,
+    }
+}
+
 // The information on the partition at a place in the manifest for a compact caller.
-fn compact_info(uuid: &[u8; 16], place: usize, endpoint: &Endpoint) -> [u8; 8]
+fn compact_info(ffa: Ffa, uuid: &[u8; 16], place: usize, endpoint: &Endpoint) -> [u8; 8]
     requires place { place < MOST_ENDPOINTS }
-    requires properties { endpoint.now.properties.0 < 16 }
-    ensures { result ≡ info_of Version.Compact uuid.now (place, party_of endpoint.now) }
+    ensures { result ≡ info_of ffa Version.Compact uuid.now (place, party_of endpoint.now) }
 {
     let mut info = [0; 8];
     LittleEndian::write_u16(&mut info[..2], EndpointId::at(place).0);
@@ -88,18 +104,29 @@ fn compact_info(uuid: &[u8; 16], place: usize, endpoint: &Endpoint) -> [u8; 8]
     info
 }
 
-// The information on the partition at a place in the manifest for any caller but a compact one. It has the partition's UUID
-// where the Nil UUID was asked.
-fn full_info(uuid: &[u8; 16], place: usize, endpoint: &Endpoint) -> [u8; 24]
+// The properties of a partition that a caller of this form is told. On a machine of FF-A 1.2 only a caller of FF-A 1.2 is told
+// those of second direct messages.
+fn properties_told(ffa: Ffa, version: Version, properties: u32) -> u32
+    ensures { result ≡ properties_told ffa version properties }
+{
+    match (ffa, version) {
+        (Ffa::V1_2, Version::Compact | Version::V1_1) => properties & OF_FFA_1_1,
+        _ => properties,
+    }
+}
+
+// The information on the partition at a place in the manifest for any caller but a compact one, who is told these properties.
+// It has the partition's UUID where the Nil UUID was asked.
+fn full_info(properties: u32, uuid: &[u8; 16], place: usize, endpoint: &Endpoint) -> [u8; 24]
     requires place { place < MOST_ENDPOINTS }
-    requires properties { endpoint.now.properties.0 < 16 }
-    ensures V1_1 { result ≡ info_of Version.V1_1 uuid.now (place, party_of endpoint.now) }
-    ensures V1_2 { result ≡ info_of Version.V1_2 uuid.now (place, party_of endpoint.now) }
+    requires properties { properties < 2 ^ 11 }
+    ensures { result ≡ little_bytes 2 (identifier place) ++ little_bytes 2 1
+        ++ (little_bytes 4 (properties + 0x100) ++ (if model.is_nil uuid.now then endpoint.now.uuid else replicate 16 0)) }
 {
     let mut info = [0; 24];
     LittleEndian::write_u16(&mut info[..2], EndpointId::at(place).0);
     LittleEndian::write_u16(&mut info[2..4], CONTEXTS);
-    LittleEndian::write_u32(&mut info[4..8], endpoint.properties.bits() + AARCH64);
+    LittleEndian::write_u32(&mut info[4..8], properties + AARCH64);
     if is_zeros(uuid) {
         info[8..].copy_from_slice(&endpoint.uuid);
     }
@@ -109,6 +136,7 @@ fn full_info(uuid: &[u8; 16], place: usize, endpoint: &Endpoint) -> [u8; 24]
 // Puts the information on the partition at a place in the manifest behind that on others, for a caller of this version.
 fn push_info(
     bytes: &mut ArrayVec<u8, MOST_INFO_BYTES>,
+    ffa: Ffa,
     version: Version,
     uuid: &[u8; 16],
     place: usize,
@@ -116,17 +144,18 @@ fn push_info(
 )
     requires room { length bytes.old.items + 24 ≤ MOST_INFO_BYTES }
     requires place { place < MOST_ENDPOINTS }
-    requires properties { endpoint.now.properties.0 < 16 }
-    ensures bytes { bytes.new.items ≡ bytes.old.items ++ info_of version uuid.now (place, party_of endpoint.now) }
+    requires properties { endpoint.now.properties.0 < 2 ^ 11 }
+    ensures bytes { bytes.new.items ≡ bytes.old.items ++ info_of ffa version uuid.now (place, party_of endpoint.now) }
     ensures size { length bytes.new.items ≤ length bytes.old.items + 24 }
 {
     match version {
         Version::Compact => {
-            let info = compact_info(uuid, place, endpoint);
+            let info = compact_info(ffa, uuid, place, endpoint);
             bytes.try_extend_from_slice(&info).unwrap();
         }
         Version::V1_1 | Version::V1_2 => {
-            let info = full_info(uuid, place, endpoint);
+            let properties = properties_told(ffa, version, endpoint.properties.bits());
+            let info = full_info(properties, uuid, place, endpoint);
             bytes.try_extend_from_slice(&info).unwrap();
         }
     }
@@ -149,13 +178,13 @@ pub fn info_bytes(
     version: Version,
     uuid: [u32; 4],
 ) -> ArrayVec<u8, MOST_INFO_BYTES>
-    ensures { result.items ≡ info_bytes version (map party_of manifest.now.endpoints.items) (uuid_bytes uuid) }
+    ensures { result.items ≡ info_bytes manifest.now.ffa version (map party_of manifest.now.endpoints.items) (uuid_bytes uuid) }
 {
     let uuid = uuid_of(uuid);
     let mut bytes = ArrayVec::new();
     for (place, endpoint) in manifest.endpoints.as_slice().iter().enumerate() {
         if is_selected(&uuid, place, endpoint) {
-            push_info(&mut bytes, version, &uuid, place, endpoint);
+            push_info(&mut bytes, manifest.ffa, version, &uuid, place, endpoint);
         }
     }
     bytes

@@ -5,7 +5,7 @@ ghost use Rattle.std.specs.Result.{result_err};
 ghost use Rattle.ffa_model.specs.Bits.{bits, is_set};
 ghost use Rattle.ffa_model.specs.Calls.{first_refusal, success};
 ghost use Rattle.ffa_model.specs.Identifiers.{manager};
-ghost use Rattle.ffa_model.specs.Setup.{version_reply, feature_properties, features_guards, features_reply, map_properties, retrieve_properties};
+ghost use Rattle.ffa_model.specs.Setup.{version_reply, feature_properties, features_guards, features_reply, map_properties, retrieve_properties, tells_normal};
 
 use ffa_abi::is_function;
 use ffa_model::function::{
@@ -24,6 +24,9 @@ const GREATEST_SIZE: u32 = MOST_BUFFER_PAGES << 16;
 
 /// What FFA_FEATURES says of a retrieve whose response tells non-secure memory: bit 1.
 const TELLS_WORLDS: u32 = 2;
+
+/// What FFA_FEATURES says to the normal world, whose hypervisor may read back what it sent: bit 2.
+const READS_BACK: u32 = 4;
 
 /// NOT_SUPPORTED as FFA_VERSION answers it, as 32 bits of two's complement.
 const NO_VERSION: u32 = 0xFFFF_FFFF;
@@ -59,26 +62,28 @@ fn told_version(is_served: bool, version: u32) -> Reply
 
 /// FFA_FEATURES (DEN0077A, 13), by the identifier of a call in either form: whether there is such a call. A machine of FF-A 1.2
 /// also tells properties of two calls: of FFA_RXTX_MAP how many pages a buffer has at most, to a caller of the form of FF-A 1.2;
-/// and of FFA_MEM_RETRIEVE_REQ that its response tells non-secure memory, to a caller of any but the compact form. No other
-/// call has further properties.
-pub fn features(function: u32, ffa: Ffa, version: Version) -> Reply
-    ensures { result ≡ features_reply ffa version function }
+/// and of FFA_MEM_RETRIEVE_REQ that its response tells non-secure memory, to a caller of any but the compact form, and that a
+/// hypervisor may read back what it sent, to the normal world. No other call has further properties.
+pub fn features(function: u32, ffa: Ffa, caller: EndpointId, version: Version) -> Reply
+    ensures { result ≡ features_reply ffa caller.0 version function }
 {
     match check_features(function) {
-        Ok(()) => Reply::Success([properties(function, ffa, version), 0, 0, 0, 0, 0]),
+        Ok(()) => Reply::Success([properties(function, ffa, caller, version), 0, 0, 0, 0, 0]),
         Err(refusal) => Reply::Error(refusal.code()),
     }
 }
 
-// The properties of a call, on a machine of this version of FF-A, for a caller of this form.
-fn properties(function: u32, ffa: Ffa, version: Version) -> u32
-    ensures { result ≡ feature_properties ffa version function }
+// The properties of a call, on a machine of this version of FF-A, for this caller of this form.
+fn properties(function: u32, ffa: Ffa, caller: EndpointId, version: Version) -> u32
+    ensures { result ≡ feature_properties ffa caller.0 version function }
 {
     match ffa {
         Ffa::V1_1 => 0,
         Ffa::V1_2 => match function {
             FFA_RXTX_MAP | FFA_RXTX_MAP_64 => map_properties(version),
-            FFA_MEM_RETRIEVE_REQ | FFA_MEM_RETRIEVE_REQ_64 => retrieve_properties(version),
+            FFA_MEM_RETRIEVE_REQ | FFA_MEM_RETRIEVE_REQ_64 => {
+                retrieve_properties(caller, version)
+            }
             _ => 0,
         },
     }
@@ -94,9 +99,21 @@ fn map_properties(version: Version) -> u32
     }
 }
 
-// The properties of FFA_MEM_RETRIEVE_REQ, for a caller of this form.
-fn retrieve_properties(version: Version) -> u32
-    ensures { result ≡ retrieve_properties version }
+// The properties of FFA_MEM_RETRIEVE_REQ, for this caller of this form.
+fn retrieve_properties(caller: EndpointId, version: Version) -> u32
+    ensures { result ≡ retrieve_properties caller.0 version }
+{
+    let read_back = if caller == EndpointId::NORMAL_WORLD {
+        READS_BACK
+    } else {
+        0
+    };
+    told_worlds(version) + read_back
+}
+
+// Of these the bit of non-secure memory.
+fn told_worlds(version: Version) -> u32
+    ensures { result ≡ if tells_normal version then 2 else 0 }
 {
     match version {
         Version::Compact => 0,

@@ -6,6 +6,6 @@ use Rattle.ffa_setup.proofs.partitions.info_bytes.Given as goal
 
 abbrev pub invariant-loop-place : goal.invariant-loop-place
 invariant-loop-place l = record {
-  written : l.bytes.items ++ flat_map (info_of l.version l.uuid) (selected_from l.place (drop l.place l.endpoint-items) l.uuid) ≡ flat_map (info_of l.version l.uuid) (selected_from 0 l.endpoint-items l.uuid);
+  written : l.bytes.items ++ flat_map (info_of l.manifest.ffa l.version l.uuid) (selected_from l.place (drop l.place l.endpoint-items) l.uuid) ≡ flat_map (info_of l.manifest.ffa l.version l.uuid) (selected_from 0 l.endpoint-items l.uuid);
   fits : length l.bytes.items ≤ 24 * (l.place - 1);
 }
