@@ -27,11 +27,11 @@ use Rattle.ffa_memshare.specs.declared.found.FoundRight.{FoundRight}
 use Rattle.ffa_memshare.specs.Stored.{Slot, pool_slot}
 
 -- the slot of the transaction that these bytes of e ask for, and the right that they ask for
-pub record IsAskedFor (slots : List Slot) (ram : Ownership) (e : ℕ) (bytes : Versioned) (found : FoundRight)
+pub record IsAskedFor (ffa : Ffa) (slots : List Slot) (ram : Ownership) (e : ℕ) (bytes : Versioned) (found : FoundRight)
     : Type 0 where
   pub asked : RetrieveDesc
   pub transaction : Transaction
-  pub described : retrieve_of e bytes ≡ Some asked
+  pub described : retrieve_of ffa e bytes ≡ Some asked
   pub slot : pool_slot slots found.slot ≡ Some (asked.handle, transaction)
   pub right : found.right ≡ right_for ram transaction e asked
 

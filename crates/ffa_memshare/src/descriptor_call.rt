@@ -5,6 +5,7 @@ ghost use Rattle.std.specs.Result.{result_err};
 ghost use Rattle.ffa_model.specs.MemorySend.{transfer_guards};
 ghost use Rattle.ffa_model.specs.Buffers.{buffers_in};
 ghost use Rattle.ffa_model.specs.Calls.{first_refusal};
+ghost use Rattle.ffa_model.specs.HypervisorRetrieve.{is_asked_back};
 ghost use Rattle.ffa_model.specs.State.{Buffers as Own};
 ghost use Rattle.ffa_rxtx.specs.Parts.{IsInRam};
 ghost use Rattle.ffa_rxtx.specs.Stored.{buffers_of};
@@ -69,5 +70,20 @@ impl DescriptorCall {
         }
         let bytes = PageRun::new(ram, own.tx, own.pages, transfer.total as usize);
         Ok(Descriptor { bytes, own })
+    }
+
+    /// Whether the normal world of a machine of FF-A 1.2 asks, as a hypervisor, for what it sent.
+    pub fn asks_back<M: PhysMem>(&self, ram: &M, buffers: &Buffers, caller: EndpointId) -> bool
+        requires tx { (b : Own) → buffers_in buffers.now caller.0 ≡ Some b → IsInRam (length (M.ram ram.now).pages) b }
+        ensures { let descriptor = descriptor_in (M.ram ram.now) buffers.now caller.0 self.now in
+            result ≡ is_asked_back self.now.ffa buffers.now caller.0 self.now.transfer descriptor }
+    {
+        if self.ffa == Ffa::V1_1 || caller != EndpointId::NORMAL_WORLD {
+            return false;
+        }
+        match self.descriptor(ram, buffers, caller) {
+            Ok(found) => ffa_memdesc::has_no_access(&found.bytes, self.version),
+            Err(_) => false,
+        }
     }
 }

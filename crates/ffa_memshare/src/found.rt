@@ -23,3 +23,12 @@ pub struct FoundReturn {
     /// Whether its pages are to be zeros.
     pub zero: bool,
 }
+
+/// What a hypervisor's retrieve is done with.
+#[derive(Clone, Copy, PartialEq, Eq)]
+pub struct FoundSent {
+    /// The slot of the transaction that is asked for.
+    pub slot: usize,
+    /// The caller's buffers.
+    pub own: Mapped,
+}

@@ -1,17 +1,19 @@
 // SPDX-License-Identifier: MIT OR Apache-2.0
 //! Bytes that stand in pages in a row.
-ghost use Rattle.std.specs.Prelude.{◌≡◌, ℕ, ◌+◌, ◌*◌, ◌≤◌, length, OnOk, IfErr, IfSome};
+ghost use Rattle.std.specs.Prelude.{◌≡◌, ℕ, ◌+◌, ◌*◌, ◌≤◌, length, OnOk, IfErr, IfOk, IfSome};
 ghost use Rattle.std.specs.Option.{option_map};
 ghost use Rattle.std.specs.Result.{result_err, result_ok};
-ghost use Rattle.ffa_model.specs.DescriptorPlaces.{in_version};
+ghost use Rattle.ffa_model.specs.DescriptorPlaces.{IsHeader, in_version};
 ghost use Rattle.ffa_model.specs.RelinquishDescriptor.{relinquish_of};
-ghost use Rattle.ffa_model.specs.RetrieveDescriptor.{retrieve_of};
+ghost use Rattle.ffa_model.specs.RetrieveDescriptor.{Retrieve, are_receivers, endpoints_named, retrieve_of};
 ghost use Rattle.ffa_model.specs.FirstFlaws.{relinquish_flaw, retrieve_flaw, send_flaw};
 ghost use Rattle.ffa_model.specs.Flaws.{SendBreaks, RetrieveBreaks, RelinquishBreaks};
 ghost use Rattle.ffa_model.specs.SendDescriptor.{Send, send_of, send_record};
 
 use ffa_memdesc::{Bytes, Flaw};
-use ffa_model::{EndpointId, Ffa, Kind, PageNo, RelinquishDesc, RetrieveDesc, SendDesc, Version};
+use ffa_model::{
+    EndpointId, Ffa, Kind, PageNo, Receiver, RelinquishDesc, RetrieveDesc, SendDesc, Version,
+};
 use ffa_physmem::{PAGE_SIZE, PhysMem};
 use std::marker::Model;
 
@@ -106,20 +108,37 @@ pub(crate) fn read_send<M: PhysMem>(
     }
 }
 
-/// What the bytes say as a retrieve descriptor for this endpoint, which has this version; else a condition
-/// that they break.
+/// What the bytes say as a retrieve descriptor for this endpoint, which has this version, on a machine of this FF-A; else a
+/// condition that they break.
 pub(crate) fn read_retrieve<M: PhysMem>(
     bytes: &PageRun<M>,
+    ffa: Ffa,
     version: Version,
     endpoint: EndpointId,
 ) -> Result<RetrieveDesc, Flaw>
-    ensures computed { result_ok result ≡ retrieve_of endpoint.0 (in_version version bytes.now) }
-    ensures broken { IfErr result (RetrieveBreaks endpoint.0 (in_version version bytes.now)) }
-    ensures first { result_err result ≡ retrieve_flaw endpoint.0 (in_version version bytes.now) }
+    ensures found { IfOk result (λ d. Retrieve ffa endpoint.0 (in_version version bytes.now) d) }
+    ensures computed { result_ok result ≡ retrieve_of ffa endpoint.0 (in_version version bytes.now) }
+    ensures broken { IfErr result (RetrieveBreaks ffa endpoint.0 (in_version version bytes.now)) }
+    ensures first { result_err result ≡ retrieve_flaw ffa endpoint.0 (in_version version bytes.now) }
 {
     match bytes.in_one_page() {
-        Some(page) => ffa_memdesc::read_retrieve(&page, version, endpoint),
-        None => ffa_memdesc::read_retrieve(bytes, version, endpoint),
+        Some(page) => ffa_memdesc::read_retrieve(&page, ffa, version, endpoint),
+        None => ffa_memdesc::read_retrieve(bytes, ffa, version, endpoint),
+    }
+}
+
+/// Whether the bytes of a retrieve descriptor name one endpoint alone, or exactly these receivers.
+pub(crate) fn names_receivers<M: PhysMem>(
+    bytes: &PageRun<M>,
+    version: Version,
+    receivers: &[Receiver],
+) -> bool
+    requires { IsHeader (in_version version bytes.now) }
+    ensures { result ≡ are_receivers (endpoints_named (in_version version bytes.now)) receivers.now }
+{
+    match bytes.in_one_page() {
+        Some(page) => ffa_memdesc::names_receivers(&page, version, receivers),
+        None => ffa_memdesc::names_receivers(bytes, version, receivers),
     }
 }
 

@@ -7,7 +7,7 @@ ghost use Rattle.ffa_model.specs.Buffers.{buffers_in, buffers_with_rx};
 ghost use Rattle.ffa_model.specs.Calls.{first_failure};
 ghost use Rattle.ffa_model.specs.Identifiers.{identifier, manager, place};
 ghost use Rattle.ffa_model.specs.MemoryRetrieve.{response_to, retrieve_guards, taken_in};
-ghost use Rattle.ffa_model.specs.RetrieveDescriptor.{retrieve_of};
+ghost use Rattle.ffa_model.specs.RetrieveDescriptor.{endpoints_named, retrieve_of};
 ghost use Rattle.ffa_model.specs.State.{Transaction};
 ghost use Rattle.ffa_pages.specs.Entry.{owner_at};
 ghost use Rattle.ffa_physmem.specs.Moments.{Only};
@@ -47,7 +47,7 @@ impl<O: Room<OpenSlot> + Drop> Pool<O> {
     ///
     /// In this order: `InvalidParameters` where the caller has no buffers, the descriptor doesn't stand whole
     /// in TX, the bytes are none, no transaction with its handle is open that is offered to the caller, or it
-    /// describes another sender, tag or kind; `Denied` where the caller holds it already, or asks for more
+    /// describes other receivers, another sender, tag or kind; `Denied` where the caller holds it already, or asks for more
     /// than it may hold; `Busy` where RX is full. An error changes nothing.
     #[inline(always)]
     pub fn retrieve<M: PhysMem, P: Room<KeptPage> + Drop>(
@@ -63,8 +63,9 @@ impl<O: Room<OpenSlot> + Drop> Pool<O> {
         requires shared { IsShared (memory_of (M.ram ram.old) layout.now pages.old) self.old.slots }
         requires caller { IsCaller (memory_of (M.ram ram.old) layout.now pages.old) buffers.old caller.0 }
         ensures refusal { let parts = memory_parts (M.ram ram.old) layout.now pages.old buffers.old self.old in
-            let asked = retrieve_of caller.0 (descriptor_in (M.ram ram.old) buffers.old caller.0 call.now) in
-            result_err result ≡ first_failure (retrieve_guards (scene_in parts) caller.0 call.now.transfer asked) }
+            let bytes = descriptor_in (M.ram ram.old) buffers.old caller.0 call.now in
+            let asked = retrieve_of call.now.ffa caller.0 bytes in
+            result_err result ≡ first_failure (retrieve_guards call.now.ffa (scene_in parts) caller.0 call.now.transfer (endpoints_named bytes) asked) }
         ensures kept { OnErr result (self.new ≡ self.old) }
         ensures kept_pages { OnErr result (pages.new ≡ pages.old) }
         ensures kept_buffers { OnErr result (buffers.new ≡ buffers.old) }
@@ -75,7 +76,7 @@ impl<O: Room<OpenSlot> + Drop> Pool<O> {
         ensures done { let before = memory_parts (M.ram ram.old) layout.now pages.old buffers.old self.old in
             let after = memory_parts (M.ram ram.new) layout.now pages.new buffers.new self.new in
             let bytes = descriptor_in (M.ram ram.old) buffers.old caller.0 call.now in
-            IfOk result (IsRetrieved before after caller bytes news.new) }
+            IfOk result (IsRetrieved call.now.ffa before after caller bytes news.new) }
         ensures steps { let before = memory_parts (M.ram ram.old) layout.now pages.old buffers.old self.old in
             IsRxApartOfOpen before caller.0
             → OnlyMomentsFor layout.now (M.ram ram.old) (M.ram ram.new) (M.past ram.old) (M.past ram.new) }
@@ -146,7 +147,7 @@ impl OpenTransaction {
         requires own { Some (buffers_of found.now.own) ≡ buffers_in buffers.old caller.0 }
         ensures answered { let before = memory_of (M.ram ram.old) layout.now pages.now in
             let told = response_to self.now.handle (view_of self.now) caller.0 found.now.right in
-            IsResponded before (M.ram ram.new) (buffers_in buffers.old caller.0) version told result }
+            IsResponded before (M.ram ram.new) (buffers_in buffers.old caller.0) version caller.0 found.now.right told result }
         ensures full { buffers.new ≡ buffers_with_rx buffers.old caller.0 true }
         ensures steps { let before = memory_of (M.ram ram.old) layout.now pages.now in
             IsRxApart before (buffers_in buffers.old caller.0) (in_ranges layout.now.base.0 self.now.ranges)

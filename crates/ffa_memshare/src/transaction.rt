@@ -48,7 +48,9 @@ pub struct OpenTransaction {
 }
 
 // The same receivers.
-fn copy_of(receivers: &ArrayVec<Receiver, MOST_RECEIVERS>) -> ArrayVec<Receiver, MOST_RECEIVERS>
+pub(crate) fn copy_of(
+    receivers: &ArrayVec<Receiver, MOST_RECEIVERS>,
+) -> ArrayVec<Receiver, MOST_RECEIVERS>
     ensures { result ≡ receivers.now }
 {
     let mut copy = ArrayVec::new();

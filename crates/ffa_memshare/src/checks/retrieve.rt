@@ -7,9 +7,9 @@ ghost use Rattle.std.specs.Result.{result_err};
 ghost use Rattle.ffa_model.specs.Access.{is_receiver};
 ghost use Rattle.ffa_model.specs.Buffers.{buffers_in};
 ghost use Rattle.ffa_model.specs.Calls.{first_refusal};
-ghost use Rattle.ffa_model.specs.DescriptorPlaces.{Versioned};
-ghost use Rattle.ffa_model.specs.MemoryRetrieve.{asked_right, holding_guards, is_kind_right, retrieve_guards, right_for};
-ghost use Rattle.ffa_model.specs.RetrieveDescriptor.{retrieve_of};
+ghost use Rattle.ffa_model.specs.DescriptorPlaces.{IsHeader, Versioned, in_version};
+ghost use Rattle.ffa_model.specs.MemoryRetrieve.{asked_right, holding_guards, is_kind_right, names_receivers, retrieve_guards, right_for};
+ghost use Rattle.ffa_model.specs.RetrieveDescriptor.{endpoints_named, retrieve_of};
 ghost use Rattle.ffa_model.specs.Rights.{is_at_most};
 ghost use Rattle.ffa_model.specs.Transactions.{ceiling, grant_to};
 ghost use Rattle.ffa_rxtx.specs.Stored.{buffers_of};
@@ -21,16 +21,16 @@ ghost use Rattle.ffa_memshare.specs.Scenes.{descriptor_in, scene_in};
 ghost use Rattle.ffa_memshare.specs.Shared.{AreRangesInRam};
 ghost use Rattle.ffa_memshare.specs.Stored.{map_in};
 
-use crate::descriptor_call::DescriptorCall;
+use crate::descriptor_call::{Descriptor, DescriptorCall};
 use crate::found::FoundRight;
 use crate::open_slot::OpenSlot;
-use crate::page_run::read_retrieve;
+use crate::page_run::{names_receivers, read_retrieve};
 use crate::pool::Pool;
 use crate::transaction::OpenTransaction;
-use ffa_model::{Address, Data, EndpointId, Kind, Refusal, RetrieveDesc, Rights, Room};
+use ffa_model::{Address, Data, EndpointId, Ffa, Kind, Refusal, RetrieveDesc, Rights, Room};
 use ffa_pages::{KeptPage, PageTable};
 use ffa_physmem::PhysMem;
-use ffa_rxtx::{Buffers, Mapped};
+use ffa_rxtx::Buffers;
 use ffa_stage2::Layout;
 
 impl<O: Room<OpenSlot> + Drop> Pool<O> {
@@ -52,42 +52,47 @@ impl<O: Room<OpenSlot> + Drop> Pool<O> {
         requires placed { AreRangesInRam self.now.slots layout.now.base.0 (length pages.now) }
         requires caller { IsCaller (memory_of (M.ram ram.now) layout.now pages.now) buffers.now caller.0 }
         ensures refusal { let parts = memory_parts (M.ram ram.now) layout.now pages.now buffers.now self.now in
-            let asked = retrieve_of caller.0 (descriptor_in (M.ram ram.now) buffers.now caller.0 call.now) in
-            result_err result ≡ first_refusal (retrieve_guards (scene_in parts) caller.0 call.now.transfer asked) }
+            let bytes = descriptor_in (M.ram ram.now) buffers.now caller.0 call.now in
+            let asked = retrieve_of call.now.ffa caller.0 bytes in
+            result_err result ≡ first_refusal (retrieve_guards call.now.ffa (scene_in parts) caller.0 call.now.transfer (endpoints_named bytes) asked) }
         ensures own { IfOk result (λ found. Some (buffers_of found.own) ≡ buffers_in buffers.now caller.0) }
         ensures found { let owners = ownership_in pages.now layout.now.base.0 in
             let bytes = descriptor_in (M.ram ram.now) buffers.now caller.0 call.now in
-            IfOk result (IsAskedFor self.now.slots owners caller.0 bytes) }
+            IfOk result (IsAskedFor call.now.ffa self.now.slots owners caller.0 bytes) }
     {
         let found = call.descriptor(ram, buffers, caller)?;
-        let Ok(asked) = read_retrieve(&found.bytes, call.version, caller) else {
+        let Ok(asked) = read_retrieve(&found.bytes, call.ffa, call.version, caller) else {
             return Err(Refusal::DescriptorMalformed);
         };
-        self.check_asked(pages, layout.base, found.own, caller, &asked)
+        self.check_asked(pages, layout.base, call, &found, caller, &asked)
     }
 
-    // Whether an endpoint with these buffers may take what it asks for.
-    pub(crate) fn check_asked<P: Room<KeptPage> + Drop>(
+    // Whether an endpoint may take what the descriptor in its TX asks for.
+    pub(crate) fn check_asked<M: PhysMem, P: Room<KeptPage> + Drop>(
         &self,
         pages: &PageTable<P>,
         base: Address,
-        own: Mapped,
+        call: &DescriptorCall,
+        descriptor: &Descriptor<M>,
         caller: EndpointId,
         asked: &RetrieveDesc,
     ) -> Result<FoundRight, Refusal>
         requires placed { AreRangesInRam self.now.slots base.0 (length pages.now) }
+        requires header { IsHeader (in_version call.now.version descriptor.now.bytes) }
         ensures refusal { let owners = ownership_in pages.now base.0 in
-            let named = finite.get (map_in self.now.slots) asked.now.handle in
-            result_err result ≡ first_refusal (holding_guards owners own.is_full caller.0 asked.now named) }
-        ensures own { IfOk result (λ found. found.own ≡ own) }
-        ensures found { (bytes : Versioned) → retrieve_of caller.0 bytes ≡ Some asked.now
-            → IfOk result (IsAskedFor self.now.slots (ownership_in pages.now base.0) caller.0 bytes) }
+            let named = endpoints_named (in_version call.now.version descriptor.now.bytes) in
+            let transaction = finite.get (map_in self.now.slots) asked.now.handle in
+            result_err result ≡ first_refusal (holding_guards call.now.ffa owners descriptor.now.own.is_full caller.0 named asked.now transaction) }
+        ensures own { IfOk result (λ found. found.own ≡ descriptor.now.own) }
+        ensures found { (bytes : Versioned) → retrieve_of call.now.ffa caller.0 bytes ≡ Some asked.now
+            → IfOk result (IsAskedFor call.now.ffa self.now.slots (ownership_in pages.now base.0) caller.0 bytes) }
     {
         let Some(slot) = self.find(asked.handle) else {
             return Err(Refusal::HandleUnknown);
         };
         let open = self.at(slot);
-        let right = open.check_retrieve(pages, base, own.is_full, caller, asked)?;
+        let right = open.check_retrieve(pages, base, call, descriptor, caller, asked)?;
+        let own = descriptor.own;
         Ok(FoundRight { slot, right, own })
     }
 }
@@ -129,25 +134,31 @@ impl OpenTransaction {
         }
     }
 
-    // The right that an endpoint gets whose RX is full or not, or why it gets none.
-    fn check_retrieve<P: Room<KeptPage> + Drop>(
+    // The right that an endpoint gets by the descriptor in its TX, or why it gets none.
+    fn check_retrieve<M: PhysMem, P: Room<KeptPage> + Drop>(
         &self,
         pages: &PageTable<P>,
         base: Address,
-        is_full: bool,
+        call: &DescriptorCall,
+        descriptor: &Descriptor<M>,
         caller: EndpointId,
         asked: &RetrieveDesc,
     ) -> Result<Rights, Refusal>
-        requires { ArePlaced base.0 (length pages.now) self.now.ranges }
+        requires placed { ArePlaced base.0 (length pages.now) self.now.ranges }
+        requires header { IsHeader (in_version call.now.version descriptor.now.bytes) }
         ensures refusal { let owners = ownership_in pages.now base.0 in
+            let named = endpoints_named (in_version call.now.version descriptor.now.bytes) in
             let transaction = Some (view_of self.now) in
-            result_err result ≡ first_refusal (holding_guards owners is_full caller.0 asked.now transaction) }
+            result_err result ≡ first_refusal (holding_guards call.now.ffa owners descriptor.now.own.is_full caller.0 named asked.now transaction) }
         ensures right { let owners = ownership_in pages.now base.0 in
             IfOk result (λ right. right ≡ right_for owners (view_of self.now) caller.0 asked.now) }
     {
         let Some(granted) = self.grant_to(caller) else {
             return Err(Refusal::NotReceiver);
         };
+        if !self.is_named_right(call, descriptor) {
+            return Err(Refusal::ReceiversDiffer);
+        }
         if asked.sender != self.sender {
             return Err(Refusal::TransactionSenderDiffers);
         }
@@ -165,10 +176,25 @@ impl OpenTransaction {
         if !is_at_most(right, most) {
             return Err(Refusal::RightTooMuch);
         }
-        if is_full {
+        if descriptor.own.is_full {
             return Err(Refusal::RxFull);
         }
         Ok(right)
+    }
+
+    // Whether the descriptor names whom it has to name: on a machine of FF-A 1.2 the caller alone, or exactly the receivers.
+    #[inline(always)]
+    fn is_named_right<M: PhysMem>(&self, call: &DescriptorCall, descriptor: &Descriptor<M>) -> bool
+        requires { IsHeader (in_version call.now.version descriptor.now.bytes) }
+        ensures { let named = endpoints_named (in_version call.now.version descriptor.now.bytes) in
+            result ≡ names_receivers call.now.ffa named (view_of self.now) }
+    {
+        match call.ffa {
+            Ffa::V1_1 => true,
+            Ffa::V1_2 => {
+                names_receivers(&descriptor.bytes, call.version, self.receivers.as_slice())
+            }
+        }
     }
 }
 

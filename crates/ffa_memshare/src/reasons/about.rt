@@ -1,26 +1,27 @@
 // SPDX-License-Identifier: MIT OR Apache-2.0
 //! Explains a check that refuses a call on memory by what the call names: a descriptor in TX, or the handle of a transaction.
-ghost use Rattle.std.specs.Prelude.{◌≡◌, Some, None, find, is_some, length, not, if◌then◌else◌};
+ghost use Rattle.std.specs.Prelude.{◌≡◌, Some, None, find, is_some, length, not, true, if◌then◌else◌};
 ghost use Rattle.std.specs.Option.{option_and_then, option_map};
 ghost use Rattle.std.specs.FinMap as finite;
 ghost use Rattle.arrayvec.specs.ArrayVec.{array_vec_len};
 ghost use Rattle.ffa_model.specs.declared.transaction.Receiver.{Receiver as Named};
 ghost use Rattle.ffa_model.specs.About.{failing_reclaim};
-ghost use Rattle.ffa_model.specs.AboutContents.{about_field, about_relinquish, about_retrieve, is_known_receiver, named_by_relinquish, named_by_retrieve, named_by_send, unknown_receiver, where_mapped, where_whole};
+ghost use Rattle.ffa_model.specs.AboutContents.{about_asked_back, about_field, about_relinquish, about_retrieve, is_known_receiver, named_by_relinquish, named_by_retrieve, named_by_send, unknown_receiver, where_mapped, where_whole};
 ghost use Rattle.ffa_model.specs.Access.{held_by, is_receiver};
-ghost use Rattle.ffa_model.specs.Buffers.{buffers_in};
+ghost use Rattle.ffa_model.specs.Buffers.{buffers_in, is_full};
 ghost use Rattle.ffa_model.specs.Calls.{first_refusal};
 ghost use Rattle.ffa_model.specs.DescriptorPlaces.{in_version};
+ghost use Rattle.ffa_model.specs.HypervisorRetrieve.{back_guards, handle_alone, is_asked_back};
 ghost use Rattle.ffa_model.specs.MemoryRetrieve.{retrieve_guards, right_for};
 ghost use Rattle.ffa_model.specs.MemorySend.{send_guards};
 ghost use Rattle.ffa_model.specs.MemoryReturn.{relinquish_guards};
 ghost use Rattle.ffa_model.specs.RelinquishDescriptor.{relinquish_of};
-ghost use Rattle.ffa_model.specs.RetrieveDescriptor.{retrieve_of};
+ghost use Rattle.ffa_model.specs.RetrieveDescriptor.{endpoints_named, retrieve_of};
 ghost use Rattle.ffa_model.specs.SendDescriptor.{send_of, send_record};
 ghost use Rattle.ffa_model.specs.State.{Buffers as Own};
 ghost use Rattle.ffa_model.specs.Transactions.{ceiling};
 ghost use Rattle.ffa_mend.specs.Explained.{explained};
-ghost use Rattle.ffa_mend.specs.Mend.{mend_asked, mend_given_back, mend_held, mend_offered, mend_retrieve, mend_return, mend_sent, mend_zeros};
+ghost use Rattle.ffa_mend.specs.Mend.{mend_asked, mend_asked_back, mend_given_back, mend_held, mend_offered, mend_retrieve, mend_return, mend_sent, mend_zeros};
 ghost use Rattle.ffa_rxtx.specs.Parts.{IsInRam, ownership_in, tx_in};
 ghost use Rattle.ffa_memshare.specs.Callers.{IsCaller};
 ghost use Rattle.ffa_memshare.specs.Found.{sent_told};
@@ -42,7 +43,7 @@ use ffa_memdesc::{FieldPlace, field_value, flaw_place};
 use ffa_mend::{Cause, Explained, Mend};
 use ffa_model::{
     About, Address, EndpointId, Flaw, Handle, Kind, Receiver, Refusal, RelinquishDesc,
-    RetrieveDesc, Room, SendDesc, Version,
+    RetrieveDesc, RetrieveFlaw, Room, SendDesc, Version,
 };
 use ffa_pages::{KeptPage, PageTable};
 use ffa_physmem::PhysMem;
@@ -121,18 +122,18 @@ impl<O: Room<OpenSlot> + Drop> Pool<O> {
             let bytes = descriptor_in (M.ram ram.now) buffers.now caller.0 call.now in
             result ≡ option_map (λ refusal. (
               refusal,
-              explained (where_whole buffers.now caller.0 x (about_retrieve caller.0 bytes refusal)) None
-                  (mend_asked buffers.now scene.ram named caller.0 x bytes refusal),
+              explained (where_whole buffers.now caller.0 x (about_retrieve call.now.ffa caller.0 bytes refusal)) None
+                  (mend_asked call.now.ffa buffers.now scene.ram named caller.0 x bytes refusal),
             ))
-            (first_refusal (retrieve_guards scene caller.0 x (retrieve_of caller.0 bytes))) }
+            (first_refusal (retrieve_guards call.now.ffa scene caller.0 x (endpoints_named bytes) (retrieve_of call.now.ffa caller.0 bytes))) }
     {
         let found = match call.descriptor(ram, buffers, caller) {
             Ok(found) => found,
             Err(refusal) => return Some((refusal, Explained::of(None, None))),
         };
-        match read_retrieve(&found.bytes, call.version, caller) {
+        match read_retrieve(&found.bytes, call.ffa, call.version, caller) {
             Ok(asked) => {
-                let checked = self.check_asked(pages, layout.base, found.own, caller, &asked);
+                let checked = self.check_asked(pages, layout.base, call, &found, caller, &asked);
                 let refusal = checked.err()?;
                 let mend = self.mend_asked(pages, layout.base, caller, &asked, refusal);
                 let told = Explained::of(named_by_retrieve(&asked, refusal), mend);
@@ -144,6 +145,50 @@ impl<O: Room<OpenSlot> + Drop> Pool<O> {
                 Some((Refusal::DescriptorMalformed, told))
             }
         }
+    }
+
+    /// The first check of a hypervisor's FFA_MEM_RETRIEVE_REQ that fails. With it the header that is not 0, or the handle and who
+    /// sent that transaction.
+    pub fn why_read_back<M: PhysMem, P: Room<KeptPage> + Drop>(
+        &self,
+        ram: &M,
+        layout: &Layout,
+        pages: &PageTable<P>,
+        buffers: &Buffers,
+        caller: EndpointId,
+        call: &DescriptorCall,
+    ) -> Option<(Refusal, Explained)>
+        requires caller { IsCaller (memory_of (M.ram ram.now) layout.now pages.now) buffers.now caller.0 }
+        requires asked { let descriptor = descriptor_in (M.ram ram.now) buffers.now caller.0 call.now in
+            is_asked_back call.now.ffa buffers.now caller.0 call.now.transfer descriptor ≡ true }
+        ensures { let bytes = descriptor_in (M.ram ram.now) buffers.now caller.0 call.now in
+            let full = is_full (buffers_in buffers.now caller.0) in
+            let named = finite.get (map_in self.now.slots) in
+            result ≡ option_map (λ refusal. (
+              refusal,
+              explained (about_asked_back bytes refusal) None (mend_asked_back named bytes refusal),
+            ))
+            (first_refusal (back_guards full caller.0 named (handle_alone bytes))) }
+    {
+        let checked = self.check_read_back(ram, layout, pages, buffers, caller, call);
+        let refusal = checked.err()?;
+        let found = match call.descriptor(ram, buffers, caller) {
+            Ok(found) => found,
+            Err(_) => return None,
+        };
+        let handle = ffa_memdesc::handle_of_header(&found.bytes);
+        let told = match refusal {
+            Refusal::DescriptorMalformed => {
+                let flaw = Flaw::Retrieve(0, RetrieveFlaw::NotZero);
+                Explained::of(Some(about_field(&found.bytes, call.version, flaw)), None)
+            }
+            Refusal::NotTheSenders => {
+                let mend = mend_sent(self.named(handle));
+                Explained::of(Some(About::Handle(handle)), Some(mend))
+            }
+            _ => Explained::of(None, None),
+        };
+        Some((refusal, told))
     }
 
     /// The first check of FFA_MEM_RELINQUISH of an endpoint that fails, explained in the same way.
@@ -419,6 +464,7 @@ fn named_by_retrieve(asked: &RetrieveDesc, refusal: Refusal) -> Option<About>
         Refusal::TransactionSenderDiffers => Some(About::Endpoint(asked.sender)),
         Refusal::HandleUnknown
         | Refusal::NotReceiver
+        | Refusal::ReceiversDiffer
         | Refusal::TagDiffers
         | Refusal::KindDiffers
         | Refusal::AlreadyRetrieved

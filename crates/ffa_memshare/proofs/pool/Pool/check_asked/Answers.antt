@@ -3,8 +3,8 @@ use Rattle.ffa_memshare.specs.Stored.{view_of}
 use Rattle.ffa_memshare.proofs.Asks.{asked-slot}
 use Rattle.ffa_memshare.proofs.pool.Pool.check_asked.Goals as goal
 
-pub check_retrieve-requires : goal.check_retrieve-requires
-check_retrieve-requires g c = let it = c.at-open.result.now in c.requires.placed c.in-Some.slot it.handle (view_of it) c.at-open.ensures.value
+pub check_retrieve-requires-clause-placed : goal.check_retrieve-requires-clause-placed
+check_retrieve-requires-clause-placed g c = let it = c.at-open.result.now in c.requires.placed c.in-Some.slot it.handle (view_of it) c.at-open.ensures.value
 
 pub returns-clause-found : goal.returns-clause-found
 returns-clause-found g c bytes is =

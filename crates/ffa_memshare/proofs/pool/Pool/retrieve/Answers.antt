@@ -3,7 +3,7 @@ use Rattle.std.proofs.Common.{◌∙◌, ℕ, refl, ap, sym, subst}
 use Rattle.ffa_rxtx.specs.Parts.{ownership_in}
 use Rattle.ffa_model.specs.Buffers.{buffers_in}
 use Rattle.ffa_model.specs.MemoryRetrieve.{response_to, retrieve_guards, right_for}
-use Rattle.ffa_model.specs.RetrieveDescriptor.{retrieve_of}
+use Rattle.ffa_model.specs.RetrieveDescriptor.{endpoints_named, retrieve_of}
 use Rattle.ffa_model.specs.State.{Transaction}
 use Rattle.ffa_model.proofs.Guards.{answers-code, answers-pass}
 use Rattle.ffa_memshare.specs.Memory.{memory_of, memory_parts}
@@ -33,16 +33,18 @@ pub returns-in_err-found-clause-refusal : goal.returns-in_err-found-clause-refus
 returns-in_err-found-clause-refusal g c =
     let l = c.args.layout.now in
     answers-code
-    (retrieve_guards (scene_in (memory_parts (g.M.PhysMem.ram c.args.ram.now) l c.args.pages.now c.args.buffers.now c.args.self.now)) c.args.caller.0 c.args.call.now.transfer
-    (retrieve_of c.args.caller.0 (descriptor_in (g.M.PhysMem.ram c.args.ram.now) c.args.buffers.now c.args.caller.0 c.args.call.now)))
+    (retrieve_guards c.args.call.now.ffa (scene_in (memory_parts (g.M.PhysMem.ram c.args.ram.now) l c.args.pages.now c.args.buffers.now c.args.self.now)) c.args.caller.0 c.args.call.now.transfer
+    (endpoints_named (descriptor_in (g.M.PhysMem.ram c.args.ram.now) c.args.buffers.now c.args.caller.0 c.args.call.now))
+    (retrieve_of c.args.call.now.ffa c.args.caller.0 (descriptor_in (g.M.PhysMem.ram c.args.ram.now) c.args.buffers.now c.args.caller.0 c.args.call.now)))
     c.in_err-found.field-0.0 c.from_residual.result c.in_err-found.ensures.refusal c.from_residual.ensures.1
 
 pub returns-clause-refusal : goal.returns-clause-refusal
 returns-clause-refusal g c =
     let l = c.args.layout.now in
     answers-pass
-    (retrieve_guards (scene_in (memory_parts (g.M.PhysMem.ram c.args.ram.now) l c.args.pages.now c.args.buffers.now c.args.self.now)) c.args.caller.0 c.args.call.now.transfer
-    (retrieve_of c.args.caller.0 (descriptor_in (g.M.PhysMem.ram c.args.ram.now) c.args.buffers.now c.args.caller.0 c.args.call.now)))
+    (retrieve_guards c.args.call.now.ffa (scene_in (memory_parts (g.M.PhysMem.ram c.args.ram.now) l c.args.pages.now c.args.buffers.now c.args.self.now)) c.args.caller.0 c.args.call.now.transfer
+    (endpoints_named (descriptor_in (g.M.PhysMem.ram c.args.ram.now) c.args.buffers.now c.args.caller.0 c.args.call.now))
+    (retrieve_of c.args.call.now.ffa c.args.caller.0 (descriptor_in (g.M.PhysMem.ram c.args.ram.now) c.args.buffers.now c.args.caller.0 c.args.call.now)))
     c.in_ok-found.ensures.refusal
 
 pub returns-clause-done : goal.returns-clause-done
@@ -67,7 +69,7 @@ returns-clause-done g c =
       pages = c.take.ensures.pages its.asked.handle (view_of it) there;
       answer =
           subst (λ (h : ℕ). IsResponded (memory_of (g.M.PhysMem.ram c.args.ram.now) l c.args.pages.now) (g.M.PhysMem.ram c.hand_over-size.new.ram)
-          (buffers_in c.args.buffers.now c.args.caller.0) c.args.call.now.version (response_to h (view_of it) c.args.caller.0 found.right) c.hand_over-size.result)
+          (buffers_in c.args.buffers.now c.args.caller.0) c.args.call.now.version c.args.caller.0 found.right (response_to h (view_of it) c.args.caller.0 found.right) c.hand_over-size.result)
           (same-handle slots found.slot its.asked.handle it (its.transaction, its.slot) c.at-open.ensures.value)
           c.hand_over-size.ensures.answered;
       value = refl;

@@ -10,8 +10,8 @@ returns-then-not-is_at_most-clause-refusal g c =
     let most : c.ceiling-most.result ≡ ceiling (ownership_in c.args.pages.now c.args.base.0) (view_of c.args.self.now) c.args.caller.0 = c.ceiling-most.ensures c.args.caller.0 (sym c.in-Some.ensures.granted) in
     search (rules, most)
 
-pub returns-then-is_full-clause-refusal : goal.returns-then-is_full-clause-refusal
-returns-then-is_full-clause-refusal g c =
+pub returns-then-descriptor-clause-refusal : goal.returns-then-descriptor-clause-refusal
+returns-then-descriptor-clause-refusal g c =
     let most : c.ceiling-most.result ≡ ceiling (ownership_in c.args.pages.now c.args.base.0) (view_of c.args.self.now) c.args.caller.0 = c.ceiling-most.ensures c.args.caller.0 (sym c.in-Some.ensures.granted) in
     search (rules, most)
 

@@ -42,7 +42,7 @@ returns-clause-answered g c =
       answered =
           c.deliver.ensures.ram
           ∙ ap (λ (r : ResponseRecord). with_rx_bytes granted (buffers_in c.args.buffers.now c.args.caller.0) (response_bytes c.args.version r)) same;
-      bytes = c.deliver.ensures.size ∙ ap (λ (r : ResponseRecord). response_size c.args.version r.ranges) same;
+      bytes = c.deliver.ensures.size ∙ ap (λ (r : ResponseRecord). response_size c.args.version 1 r.ranges) same;
     }
 
 pub returns-clause-steps : goal.returns-clause-steps
