@@ -82,7 +82,7 @@ text-versions ffa text parts h =
     let (_, _, n1) = bind_ok (partition_keys its) _ e other in
     let (version, says, n2) = bind_ok (version_at ffa its) _ e n1 in
     let (uuid, _, n3) = bind_ok (uuid_at its) _ e n2 in
-    let (properties, _, n4) = bind_ok (properties_at its) _ e n3 in
+    let (properties, _, n4) = bind_ok (properties_at version its) _ e n3 in
     let (regions, _, n5) = bind_ok (regions_at placed (regions_of before) its) _ e n4 in
     let (word, _, named) = bind_ok (text_at (codes "version") its) (version_of ffa) version says in
     with-version ffa e version uuid properties regions (same-ok (endpoint_of version uuid properties regions) e n5) (named-version ffa word version named)) in

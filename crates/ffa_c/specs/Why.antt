@@ -120,13 +120,14 @@ flaw_number (Send flaw) = 7 + tag_of send_flaw.the_type flaw
 flaw_number (Access index flaw) = 12 + tag_of access_flaw.the_type flaw
 flaw_number (Composite flaw) = 18 + tag_of composite_flaw.the_type flaw
 flaw_number (Range index flaw) = 26 + tag_of range_flaw.the_type flaw
-flaw_number (Retrieve flaw) = 31 + tag_of retrieve_flaw.the_type flaw
-flaw_number (Relinquish flaw) = 41 + tag_of relinquish_flaw.the_type flaw
+flaw_number (Retrieve index flaw) = 31 + tag_of retrieve_flaw.the_type flaw
+flaw_number (Relinquish flaw) = 42 + tag_of relinquish_flaw.the_type flaw
 
 -- the index of the access descriptor or of the range that breaks it
 abbrev pub index_in : Flaw → ℕ
 index_in (Access index flaw) = index
 index_in (Range index flaw) = index
+index_in (Retrieve index flaw) = index
 index_in flaw = 0
 
 -- the condition, and where its field stands

@@ -3,7 +3,7 @@
 //! which a call answers in its registers.
 
 /// The number of the header's declarations, raised by each change that a caller has to know of.
-pub const DECLARATIONS: u32 = 12;
+pub const DECLARATIONS: u32 = 13;
 
 /// The machine serves FF-A 1.1.
 pub const FFA_1_1: u32 = 0;

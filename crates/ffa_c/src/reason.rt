@@ -284,8 +284,8 @@ fn number_of_flaw(flaw: Flaw) -> u32
         Flaw::Access(_, flaw) => 12 + u32::from(flaw as u8),
         Flaw::Composite(flaw) => 18 + u32::from(flaw as u8),
         Flaw::Range(_, flaw) => 26 + u32::from(flaw as u8),
-        Flaw::Retrieve(flaw) => 31 + u32::from(flaw as u8),
-        Flaw::Relinquish(flaw) => 41 + u32::from(flaw as u8),
+        Flaw::Retrieve(_, flaw) => 31 + u32::from(flaw as u8),
+        Flaw::Relinquish(flaw) => 42 + u32::from(flaw as u8),
     }
 }
 
@@ -294,11 +294,7 @@ fn index_in(flaw: Flaw) -> u32
     ensures { result ≡ index_in flaw }
 {
     match flaw {
-        Flaw::Access(index, _) | Flaw::Range(index, _) => index,
-        Flaw::Header(_)
-        | Flaw::Send(_)
-        | Flaw::Composite(_)
-        | Flaw::Retrieve(_)
-        | Flaw::Relinquish(_) => 0,
+        Flaw::Access(index, _) | Flaw::Range(index, _) | Flaw::Retrieve(index, _) => index,
+        Flaw::Header(_) | Flaw::Send(_) | Flaw::Composite(_) | Flaw::Relinquish(_) => 0,
     }
 }

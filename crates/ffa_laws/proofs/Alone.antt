@@ -21,7 +21,7 @@ use Rattle.ffa_model.specs.Access.{handle_at, names}
 use Rattle.ffa_model.specs.Buffers.{filled}
 use Rattle.ffa_model.specs.Calls.{first_failure}
 use Rattle.ffa_model.specs.Memory.{fetch_fault, number_at, read_fault, size_of, store_fault, stored}
-use Rattle.ffa_model.specs.MemoryRetrieve.{memory_retrieve}
+use Rattle.ffa_model.specs.MemoryRetrieve.{receiver_retrieve}
 use Rattle.ffa_model.specs.MemoryReturn.{relinquish_read, relinquished, relinquished_from}
 use Rattle.ffa_model.specs.MemorySend.{memory_send, memory_sent, send_guards, send_read, transaction_sent}
 use Rattle.ffa_model.specs.Messages.{header_in, message_in, msg_send2, send2_guards, tx_bytes}
@@ -44,6 +44,7 @@ use Rattle.ffa_laws.proofs.Kept.{known-before}
 use Rattle.ffa_laws.proofs.OwnBuffers.{rx-kept}
 use Rattle.ffa_laws.proofs.Laws.{steady-step}
 use Rattle.ffa_laws.proofs.Opened.{unnamed-opened}
+use Rattle.ffa_laws.proofs.ReadBacks.{retrieve-kept}
 use Rattle.ffa_laws.proofs.ReturnLaws.{unnamed-still}
 use Rattle.ffa_laws.proofs.SendLaws.{fresh, free, no-offer, offer, offered-owner}
 use Rattle.ffa_laws.proofs.Taken as retrieve
@@ -65,7 +66,7 @@ module _ (s : State) (steady : IsSteady s) (e p : ℕ) (owned : owner_of s p ≡
           ])
           unnamed
 
-  unnamed-retrieved : (x : Transfer) → Taken s x → handle_at (memory_retrieve s x).state p ≡ None
+  unnamed-retrieved : (x : Transfer) → Taken s x → handle_at (receiver_retrieve s x).state p ≡ None
   unnamed-retrieved x its = ap (λ t. handle_at t p) (state-taken s x its) ∙ of its.of.kind
     where
       held : handle_at (retrieve.taken_as s x its Share) p ≡ None
@@ -84,13 +85,13 @@ module _ (s : State) (steady : IsSteady s) (e p : ℕ) (owned : owner_of s p ≡
       of (Some t) there = handle_at-reheld s steady d.handle t there (finite.remove t.held s.runner) p ∙ unnamed
 
   unnamed-service : (call : calls.Call) → first_failure (service s call).guards ≡ None → handle_at (service s call).state p ≡ None
-  unnamed-service (PartitionInfoGet uuid flags) none = elim (is_count_alone flags) as (λ b. handle_at (cond b s (filled s s.runner (info_bytes (version_of s s.runner) s.parties (uuid_bytes uuid)))) p ≡ None) [ true ↦ unnamed | false ↦ unnamed ]
+  unnamed-service (PartitionInfoGet uuid flags) none = elim (is_count_alone flags) as (λ b. handle_at (cond b s (filled s s.runner (info_bytes s.ffa (version_of s s.runner) s.parties (uuid_bytes uuid)))) p ≡ None) [ true ↦ unnamed | false ↦ unnamed ]
   unnamed-service (Version word) none = version-leaves (λ t. handle_at t p ≡ None) s.ffa s word unnamed (λ version. unnamed)
   unnamed-service (MsgWait flags) none = waited-kept (λ t. handle_at t p ≡ None) s flags unnamed unnamed
   unnamed-service (MemDonate x) none = unnamed-sent Donate x none
   unnamed-service (MemLend x) none = unnamed-sent Lend x none
   unnamed-service (MemShare x) none = unnamed-sent Share x none
-  unnamed-service (MemRetrieve x) none = unnamed-retrieved x (taken s x none)
+  unnamed-service (MemRetrieve x) none = retrieve-kept (λ t. handle_at t p ≡ None) s x (λ passed. unnamed-retrieved x (taken s x passed)) unnamed (λ bytes. unnamed) none
   unnamed-service MemRelinquish none = unnamed-relinquished (relinquish_read s)
   unnamed-service (MemReclaim handle flags) none = unnamed-still s steady handle.0 p unnamed
   unnamed-service call none = unnamed

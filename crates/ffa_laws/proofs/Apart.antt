@@ -26,7 +26,7 @@ use Rattle.ffa_model.specs.Access.{is_receiver}
 use Rattle.ffa_model.specs.Buffers.{filled}
 use Rattle.ffa_model.specs.Calls.{first_failure}
 use Rattle.ffa_model.specs.Memory.{fetch_fault, number_at, read_fault, size_of, store_fault, stored}
-use Rattle.ffa_model.specs.MemoryRetrieve.{memory_retrieve}
+use Rattle.ffa_model.specs.MemoryRetrieve.{receiver_retrieve}
 use Rattle.ffa_model.specs.MemoryReturn.{relinquish_read, relinquished, relinquished_from}
 use Rattle.ffa_model.specs.MemorySend.{descriptor_in, memory_sent, send_read, transaction_sent}
 use Rattle.ffa_model.specs.Registers.{decode}
@@ -39,6 +39,7 @@ use Rattle.ffa_laws.specs.OwnAccess.{AreApart}
 use Rattle.ffa_laws.proofs.Closed.{get-remove}
 use Rattle.ffa_laws.proofs.Form.{accessed-kept, served-kept, waited-kept}
 use Rattle.ffa_laws.proofs.Opened.{Transactions, get-insert}
+use Rattle.ffa_laws.proofs.ReadBacks.{retrieve-kept}
 use Rattle.ffa_laws.proofs.Taken as retrieve
 use Rattle.ffa_laws.proofs.Versions.{version-leaves}
 use Rattle.ffa_laws.proofs.Taken.{Taken, state-taken, taken}
@@ -96,7 +97,7 @@ module _ (s : State) (apart : AreApart s) where
       of None is = apart
       of (Some r) is = with-one s.transactions (next_handle (open_of s) s.runner) (transaction_sent s kind r) apart (descriptor-apart s.ffa kind (descriptor_in s total) r is)
 
-  apart-retrieved : (x : Transfer) → Taken s x → AreApart (memory_retrieve s x).state
+  apart-retrieved : (x : Transfer) → Taken s x → AreApart (receiver_retrieve s x).state
   apart-retrieved x its = subst AreApart (sym (state-taken s x its)) (of its.of.kind)
     where
       held : Apart (finite.insert s.transactions its.asked.handle (holding its.of s.runner (retrieve.right s x its)))
@@ -115,13 +116,13 @@ module _ (s : State) (apart : AreApart s) where
       of (Some t) there = with-one s.transactions d.handle (not_holding t s.runner) apart (apart d.handle t there)
 
   apart-service : (call : calls.Call) → first_failure (service s call).guards ≡ None → AreApart (service s call).state
-  apart-service (PartitionInfoGet uuid flags) none = elim (is_count_alone flags) as (λ b. AreApart (cond b s (filled s s.runner (info_bytes (version_of s s.runner) s.parties (uuid_bytes uuid))))) [ true ↦ apart | false ↦ apart ]
+  apart-service (PartitionInfoGet uuid flags) none = elim (is_count_alone flags) as (λ b. AreApart (cond b s (filled s s.runner (info_bytes s.ffa (version_of s s.runner) s.parties (uuid_bytes uuid))))) [ true ↦ apart | false ↦ apart ]
   apart-service (Version word) none = version-leaves AreApart s.ffa s word apart (λ version. apart)
   apart-service (MsgWait flags) none = waited-kept AreApart s flags apart apart
   apart-service (MemDonate x) none = apart-sent Donate x.total
   apart-service (MemLend x) none = apart-sent Lend x.total
   apart-service (MemShare x) none = apart-sent Share x.total
-  apart-service (MemRetrieve x) none = apart-retrieved x (taken s x none)
+  apart-service (MemRetrieve x) none = retrieve-kept AreApart s x (λ passed. apart-retrieved x (taken s x passed)) apart (λ bytes. apart) none
   apart-service MemRelinquish none = apart-relinquished (relinquish_read s)
   apart-service (MemReclaim handle flags) none = without-one s.transactions handle.0 apart
   apart-service call none = apart

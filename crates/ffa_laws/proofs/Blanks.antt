@@ -25,15 +25,16 @@ use Rattle.ffa_model.specs.Lists.{map_at}
 use Rattle.ffa_model.specs.Rights.{is_donate, may_fetch, may_store}
 use Rattle.ffa_model.specs.Ram.{number_in}
 use Rattle.ffa_model.specs.SendDescriptor.{SendRecord, send_of}
-use Rattle.ffa_model.specs.RetrieveDescriptor.{retrieve_of}
+use Rattle.ffa_model.specs.RetrieveDescriptor.{endpoints_named, retrieve_of}
 use Rattle.ffa_model.specs.RelinquishDescriptor.{relinquish_of}
 use Rattle.ffa_model.specs.ResponseBytes.{response_bytes}
+use Rattle.ffa_model.specs.HypervisorRetrieve.{asks_back, back_guards, back_length, handle_alone, handle_read, hypervisor_retrieve, is_asked_back, memory_retrieve, read_back, retrieve_by, sent_record, told_back}
 use Rattle.ffa_model.specs.State.{State, Page, Transaction, Buffers, buffers_of, page_at, transaction_of, version_of, own_right_of, owner_of, with_version}
 use Rattle.ffa_model.specs.Access.{access, held_by, names, right_by, right_of, transaction_at, ownership_of}
-use Rattle.ffa_model.specs.Buffers.{filled, filled_pages, map_guards}
+use Rattle.ffa_model.specs.Buffers.{filled, filled_pages, is_full, map_guards}
 use Rattle.ffa_model.specs.Calls.{Service, Stepped, answered, encode, first_failure, served}
 use Rattle.ffa_model.specs.Memory.{access_at, accessed, changed_pages, fault_of, fetch_fault, number_at, page_bytes, page_of_address, page_with, read_fault, run_bytes, size_of, store_fault, stored, written_pages, written_run, zeroed_if, zeroed_page}
-use Rattle.ffa_model.specs.MemoryRetrieve.{donated_page, memory_retrieve, response_length, response_to, retrieve_guards, retrieve_read, retrieved, retrieved_from, retrieved_right, right_for}
+use Rattle.ffa_model.specs.MemoryRetrieve.{donated_page, receiver_retrieve, response_length, response_to, retrieve_guards, retrieve_read, retrieved, retrieved_from, retrieved_right, right_for}
 use Rattle.ffa_model.specs.MemoryReturn.{memory_reclaim, memory_relinquish, named_ranges, reclaim_guards, relinquish_guards, relinquished, relinquished_from}
 use Rattle.ffa_model.specs.MemorySend.{is_told_normal, memory_send, memory_sent, offered_in, send_guards, send_read}
 use Rattle.ffa_model.specs.DescriptorPlaces.{in_version}
@@ -288,13 +289,37 @@ module _ (s : State) (hides : ℕ → Bool) where
             ∙ (let right = right_for (ownership_of s) t s.runner d in
             λ i. record (retrieved_right s d.handle t s.runner right) { pages = given t.kind t.ranges s.runner right (response_bytes (version_of s s.runner) (response_to d.handle t s.runner right)) i })
 
+    received-o : (x : Transfer) → take x.total (tx_bytes o s.runner) ≡ take x.total (tx_bytes s s.runner) → Alike (receiver_retrieve o x) (receiver_retrieve s x)
+    received-o x part =
+        record {
+          guards = λ i. first_failure (retrieve_guards s.ffa (scene-o i) s.runner x (endpoints_named (in_version (version_of s s.runner) (part i))) (retrieve_of s.ffa s.runner (in_version (version_of s s.runner) (part i))));
+          reply = λ i. Retrieved (response_length s (retrieve_of s.ffa s.runner (in_version (version_of s s.runner) (part i))));
+          state = ap (λ said. blank hides (retrieved o (retrieve_of s.ffa s.runner (in_version (version_of s s.runner) said)))) part ∙ retrieved-o (retrieve_read s x.total);
+        }
+
+    read-o : (at : Option ℕ) → blank hides (read_back o at) ≡ blank hides (read_back s at)
+    read-o None = twice-o
+    read-o (Some h) = from (transaction_of s h)
+      where
+        from : (at : Option Transaction) → blank hides (told_back o h at) ≡ blank hides (told_back s h at)
+        from None = twice-o
+        from (Some t) = λ i. record (told_back s h (Some t)) { pages = filled-o (response_bytes (version_of s s.runner) (sent_record h t)) (buffers_of s s.runner) i }
+
+    back-o : (x : Transfer) → take x.total (tx_bytes o s.runner) ≡ take x.total (tx_bytes s s.runner) → Alike (hypervisor_retrieve o x) (hypervisor_retrieve s x)
+    back-o x part =
+        record {
+          guards = λ i. first_failure (back_guards (is_full (buffers_of s s.runner)) s.runner (transaction_of s) (handle_alone (in_version (version_of s s.runner) (part i))));
+          reply = λ i. Retrieved (back_length s (handle_alone (in_version (version_of s s.runner) (part i))));
+          state = ap (λ said. blank hides (read_back o (handle_alone (in_version (version_of s s.runner) said)))) part ∙ read-o (handle_read s x.total);
+        }
+
     retrieve-o : (x : Transfer) → take x.total (tx_bytes o s.runner) ≡ take x.total (tx_bytes s s.runner) → Alike (memory_retrieve o x) (memory_retrieve s x)
     retrieve-o x part =
-        record {
-          guards = λ i. first_failure (retrieve_guards (scene-o i) s.runner x (retrieve_of s.runner (in_version (version_of s s.runner) (part i))));
-          reply = λ i. Retrieved (response_length s (retrieve_of s.runner (in_version (version_of s s.runner) (part i))));
-          state = ap (λ said. blank hides (retrieved o (retrieve_of s.runner (in_version (version_of s s.runner) said)))) part ∙ retrieved-o (retrieve_read s x.total);
-        }
+        subst (λ b. Alike (retrieve_by b o x) (memory_retrieve s x)) (λ i. is_asked_back s.ffa s.buffers s.runner x (in_version (version_of s s.runner) (sym part i))) (by (asks_back s x))
+      where
+        by : (b : Bool) → Alike (retrieve_by b o x) (retrieve_by b s x)
+        by true = back-o x part
+        by false = received-o x part
 
     relinquished-o : (at : Option RelinquishDesc) → blank hides (relinquished o at) ≡ blank hides (relinquished s at)
     relinquished-o None = twice-o
@@ -353,9 +378,9 @@ module _ (s : State) (hides : ℕ → Bool) where
         record {
           guards = refl;
           reply = refl;
-          state = elim (is_count_alone flags) as (λ c. blank hides (cond c o (filled o s.runner (info_bytes (version_of s s.runner) s.parties (uuid_bytes uuid)))) ≡ blank hides (cond c s (filled s s.runner (info_bytes (version_of s s.runner) s.parties (uuid_bytes uuid))))) [
+          state = elim (is_count_alone flags) as (λ c. blank hides (cond c o (filled o s.runner (info_bytes s.ffa (version_of s s.runner) s.parties (uuid_bytes uuid)))) ≡ blank hides (cond c s (filled s s.runner (info_bytes s.ffa (version_of s s.runner) s.parties (uuid_bytes uuid))))) [
             | true ↦ twice-o
-            | false ↦ λ i. record (filled s s.runner (info_bytes (version_of s s.runner) s.parties (uuid_bytes uuid))) { pages = filled-o (info_bytes (version_of s s.runner) s.parties (uuid_bytes uuid)) (buffers_of s s.runner) i }
+            | false ↦ λ i. record (filled s s.runner (info_bytes s.ffa (version_of s s.runner) s.parties (uuid_bytes uuid))) { pages = filled-o (info_bytes s.ffa (version_of s s.runner) s.parties (uuid_bytes uuid)) (buffers_of s s.runner) i }
           ];
         }
     service-o (MsgWait flags) part =

@@ -1,17 +1,19 @@
 -- SPDX-License-Identifier: MIT OR Apache-2.0
 -- The state in which the machine of an accepted manifest starts is sound, with zeros or other bytes.
-use Rattle.std.proofs.Common.{◌≡◌, ◌≢◌, ℕ, zero, suc, ◌*◌, ◌<◌, Bool, true, List, [], ◌∷◌, length, map, replicate, Some, refl, subst, arith, ◌&&◌, nat_lt, slice_get}
+use Rattle.std.proofs.Common.{◌≡◌, ◌≢◌, ℕ, zero, suc, ◌*◌, ◌^◌, ◌<◌, Bool, true, List, [], ◌∷◌, length, map, replicate, Some, refl, subst, arith, ◌&&◌, nat_lt, not, slice_get}
 use Rattle.std.specs.List.{list_all}
 use Rattle.std.proofs.lemmas.Bool.{and_parts, false≢true, ltb-true}
 use Rattle.std.proofs.lemmas.List.{length-replicate}
 use Rattle.std.proofs.lemmas.Option.{none-some, same_Some}
 use Rattle.ffa_model.specs.declared.endpoint.Endpoint.{Endpoint}
+use Rattle.ffa_model.specs.declared.endpoint.Version.{Version}
+use Rattle.ffa_model.specs.declared.endpoint.Version.TheVariants.{Compact, V1_1, V1_2}
 use Rattle.ffa_model.specs.declared.manifest.Ffa.{Ffa}
 use Rattle.ffa_model.specs.First.{first, first_held, party_of}
 use Rattle.ffa_model.specs.Identifiers.{manager}
 use Rattle.ffa_model.specs.Regions.{owner_in}
 use Rattle.ffa_model.specs.State.{Party}
-use Rattle.ffa_model.specs.Manifest.{are_identified, is_accepted, is_nil, is_normal_world, is_partition}
+use Rattle.ffa_model.specs.Manifest.{are_identified, are_properties, is_accepted, is_nil, is_normal_world, is_partition}
 use Rattle.ffa_model.specs.SoundState.{IsSoundParty, IsSoundState, are_bytes}
 use Rattle.ffa_model.proofs.Accepted.{accepted}
 use Rattle.ffa_model.proofs.FirstSound.{first-sound as accepted_sound, zeros-bytes}
@@ -29,13 +31,18 @@ map-get (e ∷ es) zero party is = (e, refl, same_Some (party_of e) party is)
 map-get (e ∷ es) (suc i) party is = map-get es i party is
 
 -- the property words of an accepted manifest
-few-properties : (es : List Endpoint) (i : ℕ) (e : Endpoint) → are_identified es ≡ true → slice_get es i ≡ Some e → e.properties.0 < 16
+few-bits : (version : Version) (word : ℕ) → are_properties version word ≡ true → word < 2 ^ 11
+few-bits V1_2 word is = ltb-true word (2 ^ 11) (and_parts _ _ is).0
+few-bits Compact word is = let low = ltb-true word 16 is in omega (arith, low)
+few-bits V1_1 word is = let low = ltb-true word 16 is in omega (arith, low)
+
+few-properties : (es : List Endpoint) (i : ℕ) (e : Endpoint) → are_identified es ≡ true → slice_get es i ≡ Some e → e.properties.0 < 2 ^ 11
 few-properties [] i e identified is = absurd (false≢true identified)
 few-properties (x ∷ es) zero e identified is =
-    subst (λ (y : Endpoint). y.properties.0 < 16) (same_Some x e is)
-    (ltb-true x.properties.0 16 (and_parts _ _ (and_parts (is_nil x.uuid && nat_lt x.properties.0 16) _ (and_parts (is_normal_world x) (list_all is_partition es) identified).0).0).1)
+    subst (λ (y : Endpoint). y.properties.0 < 2 ^ 11) (same_Some x e is)
+    (few-bits Compact x.properties.0 (and_parts _ _ (and_parts (is_nil x.uuid && nat_lt x.properties.0 16) _ (and_parts (is_normal_world x) (list_all is_partition es) identified).0).0).1)
 few-properties (x ∷ es) (suc i) e identified is =
-    ltb-true e.properties.0 16 (and_parts _ _ (all-get is_partition es i e (and_parts (is_normal_world x) (list_all is_partition es) identified).1 is)).1
+    few-bits e.version e.properties.0 (and_parts (not (is_nil e.uuid)) _ (all-get is_partition es i e (and_parts (is_normal_world x) (list_all is_partition es) identified).1 is)).1
 
 -- whatever bytes the pages of its regions have
 pub first-held-sound : (ffa : Ffa) (base tables blocks : ℕ) (es : List Endpoint) (held : ℕ → List ℕ) → is_accepted base tables blocks es ≡ true

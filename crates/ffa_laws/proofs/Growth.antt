@@ -10,7 +10,7 @@ use Rattle.ffa_model.specs.declared.call.Call as calls
 use Rattle.ffa_model.specs.declared.call.Call.TheVariants.{MemDonate, MemLend, MemShare, MemRetrieve, MemRelinquish, MemReclaim}
 use Rattle.ffa_model.specs.Bits.{is_set}
 use Rattle.ffa_model.specs.Buffers.{filled, filled_pages}
-use Rattle.ffa_model.specs.MemoryRetrieve.{memory_retrieve}
+use Rattle.ffa_model.specs.MemoryRetrieve.{receiver_retrieve}
 use Rattle.ffa_model.specs.Calls.{first_failure}
 use Rattle.ffa_model.specs.Memory.{size_of}
 use Rattle.ffa_model.specs.MemoryReturn.{named_ranges, relinquish_read}
@@ -25,6 +25,7 @@ use Rattle.ffa_model.specs.declared.call.Transfer.{Transfer}
 use Rattle.ffa_laws.specs.Steady.{IsSteady, is_joint}
 use Rattle.ffa_laws.specs.Isolation.{NeverGrow, is_joint_at}
 use Rattle.ffa_laws.proofs.Views.{found}
+use Rattle.ffa_laws.proofs.ReadBacks.{retrieve-kept}
 use Rattle.ffa_laws.proofs.Taken.{Taken, right-before, before, manager-before, response, state-taken, taken}
 use Rattle.ffa_laws.proofs.Within.{within-same, within-through}
 use Rattle.ffa_laws.proofs.Changes.{AreRewritten, same_own_right, standing, page_right, unwritten}
@@ -117,8 +118,8 @@ not_grown s steady =
 
 module _ (s : State) (steady : IsSteady s) where
   -- what a donate gives is within what its sender had
-  retrieved-rights : (x : Transfer) → first_failure (memory_retrieve s x).guards ≡ None → KeepsRights s.pages (memory_retrieve s x).state.pages
-  retrieved-rights x none = subst (λ t. KeepsRights s.pages t.pages) (sym (state-taken s x its)) keeps
+  received-rights : (x : Transfer) → first_failure (receiver_retrieve s x).guards ≡ None → KeepsRights s.pages (receiver_retrieve s x).state.pages
+  received-rights x none = subst (λ t. KeepsRights s.pages t.pages) (sym (state-taken s x its)) keeps
     where
       its : Taken s x
       its = taken s x none
@@ -133,19 +134,19 @@ module _ (s : State) (steady : IsSteady s) where
             manager = λ p none. stands-nowhere _ (filling.same p ∙ ap standing (manager-before s x its steady p none));
           }
 
+  by-info : (bytes : List ℕ) → KeepsRights s.pages (filled_pages s.pages bytes (buffers_of s s.runner))
+  by-info bytes = rewritten-rights s.pages _ (rewritten-filled s.pages bytes (buffers_of s s.runner))
+
   -- the calls on memory transactions
   memory-rights : (call : calls.Call) → is_memory_call call ≡ true → first_failure (service s call).guards ≡ None → KeepsRights s.pages (service s call).state.pages
   memory-rights (MemDonate x) memory none = rewritten-rights s.pages _ (rewritten-sent s Donate (send_read s Donate x.total))
   memory-rights (MemLend x) memory none = rewritten-rights s.pages _ (rewritten-sent s Lend (send_read s Lend x.total))
   memory-rights (MemShare x) memory none = rewritten-rights s.pages _ (rewritten-sent s Share (send_read s Share x.total))
-  memory-rights (MemRetrieve x) memory none = retrieved-rights x none
+  memory-rights (MemRetrieve x) memory none = retrieve-kept (λ t. KeepsRights s.pages t.pages) s x (received-rights x) (same-rights s) by-info none
   memory-rights MemRelinquish memory none = rewritten-rights s.pages _ (rewritten-relinquished s (relinquish_read s))
   memory-rights (MemReclaim handle flags) memory none =
       rewritten-rights s.pages _ (rewritten-zeroed_if (is_set 0 flags) s (named_ranges (transaction_of s handle.0)))
   memory-rights call memory none = absurd (false≢true memory)
-
-  by-info : (bytes : List ℕ) → KeepsRights s.pages (filled_pages s.pages bytes (buffers_of s s.runner))
-  by-info bytes = rewritten-rights s.pages _ (rewritten-filled s.pages bytes (buffers_of s s.runner))
 
   sent : KeepsRights s.pages (filled_pages s.pages (message_in (tx_bytes s s.runner)) (buffers_of s (header_in (tx_bytes s s.runner)).receiver))
   sent = rewritten-rights s.pages _ (rewritten-filled s.pages (message_in (tx_bytes s s.runner)) (buffers_of s (header_in (tx_bytes s s.runner)).receiver))

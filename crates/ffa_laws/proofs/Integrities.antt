@@ -22,7 +22,7 @@ use Rattle.ffa_model.specs.Access.{access, handle_at, is_naming, names, right_of
 use Rattle.ffa_model.specs.Buffers.{filled_pages}
 use Rattle.ffa_model.specs.Memory.{access_at, size_of, store_fault, zeroed_if, zeroed_page}
 use Rattle.ffa_model.specs.Calls.{first_failure}
-use Rattle.ffa_model.specs.MemoryRetrieve.{memory_retrieve}
+use Rattle.ffa_model.specs.HypervisorRetrieve.{memory_retrieve}
 use Rattle.ffa_model.specs.MemorySend.{memory_send, memory_sent, send_guards, send_read}
 use Rattle.ffa_model.specs.Messages.{header_in, message_in, send2_guards, tx_bytes}
 use Rattle.ffa_model.specs.Step.{serve, service, step}
@@ -34,6 +34,7 @@ use Rattle.ffa_laws.specs.Moves.{by_call, by_runner}
 use Rattle.ffa_model.proofs.Guards.{guard-passes}
 use Rattle.ffa_laws.proofs.MemoryLaws.{fault-none}
 use Rattle.ffa_laws.proofs.SendLaws.{offer, offered-owner}
+use Rattle.ffa_laws.proofs.ReadBacks.{retrieve-kept}
 use Rattle.ffa_model.proofs.Accesses.{page-changed}
 use Rattle.ffa_laws.proofs.Taken.{before, response, state-taken, taken, unnamed-before}
 use Rattle.ffa_laws.proofs.Maps.{first_none}
@@ -136,11 +137,14 @@ module _ (s : State) (steady : IsSteady s) (e p : ℕ) (owned : owner_of s p ≡
 
   -- what a retrieve writes is the runner's RX
   retrieved-elsewhere : (x : Transfer) → first_failure (memory_retrieve s x).guards ≡ None → page_in (memory_retrieve s x).state.pages p ≡ page_in s.pages p
-  retrieved-elsewhere x none =
+  retrieved-elsewhere x =
+      retrieve-kept (λ t. page_in t.pages p ≡ page_in s.pages p) s x
+      (λ none.
       let its = taken s x none in
       ap (λ (t : State). page_in t.pages p) (state-taken s x its)
       ∙ by-runner (before s x its).pages (response s x its)
-      ∙ unnamed-before s x its steady p unnamed
+      ∙ unnamed-before s x its steady p unnamed)
+      refl (by-runner s.pages)
 
   -- the calls on memory transactions
   memory-page : (call : calls.Call) → is_memory_call call ≡ true → first_failure (service s call).guards ≡ None → page_in (service s call).state.pages p ≡ page_in s.pages p

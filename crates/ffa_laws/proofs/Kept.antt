@@ -29,6 +29,7 @@ use Rattle.ffa_laws.specs.Isolation.{is_send2}
 use Rattle.ffa_laws.specs.OwnAccess.{is_call, is_memory_call}
 use Rattle.ffa_laws.proofs.Versions.{version-leaves}
 use Rattle.ffa_laws.proofs.Form.{accessed-kept, served-kept, waited-kept}
+use Rattle.ffa_laws.proofs.ReadBacks.{either-kept}
 
 -- ---- the endpoints stay the same, and where RAM and the tables begin
 abbrev pub fixed : State → List Party × (ℕ × ℕ)
@@ -47,13 +48,13 @@ relinquished-fixed s None = refl
 relinquished-fixed s (Some d) = elim (transaction_of s d.handle) as (λ o. fixed (relinquished_from s d o) ≡ fixed s) [ None ↦ refl | Some t ↦ refl ]
 
 service-fixed : (s : State) (call : calls.Call) → fixed (service s call).state ≡ fixed s
-service-fixed s (PartitionInfoGet uuid flags) = elim (is_count_alone flags) as (λ b. fixed (cond b s (filled s s.runner (info_bytes (version_of s s.runner) s.parties (uuid_bytes uuid)))) ≡ fixed s) [ true ↦ refl | false ↦ refl ]
+service-fixed s (PartitionInfoGet uuid flags) = elim (is_count_alone flags) as (λ b. fixed (cond b s (filled s s.runner (info_bytes s.ffa (version_of s s.runner) s.parties (uuid_bytes uuid)))) ≡ fixed s) [ true ↦ refl | false ↦ refl ]
 service-fixed s (Version word) = version-leaves (λ t. fixed t ≡ fixed s) s.ffa s word refl (λ version. refl)
 service-fixed s (MsgWait flags) = waited-kept (λ t. fixed t ≡ fixed s) s flags refl refl
 service-fixed s (MemDonate x) = sent-fixed s Donate (send_read s Donate x.total)
 service-fixed s (MemLend x) = sent-fixed s Lend (send_read s Lend x.total)
 service-fixed s (MemShare x) = sent-fixed s Share (send_read s Share x.total)
-service-fixed s (MemRetrieve x) = retrieved-fixed s (retrieve_read s x.total)
+service-fixed s (MemRetrieve x) = either-kept (λ t. fixed t ≡ fixed s) s x (retrieved-fixed s (retrieve_read s x.total)) refl (λ bytes. refl)
 service-fixed s MemRelinquish = relinquished-fixed s (relinquish_read s)
 service-fixed s call = refl
 
@@ -94,9 +95,9 @@ module _ (R : List (Option Page) → Type 0) (s : State) (same : R s.pages) (by_
 
   kept-service : (call : calls.Call) → (is_send2 call ≡ true → send_failure ≡ None → R sent_pages) → (is_memory_call call ≡ true → Leaves call) → Leaves call
   kept-service (PartitionInfoGet uuid flags) by_send by_memory none =
-      elim (is_count_alone flags) as (λ b. R (cond b s (filled s s.runner (info_bytes (version_of s s.runner) s.parties (uuid_bytes uuid)))).pages) [
+      elim (is_count_alone flags) as (λ b. R (cond b s (filled s s.runner (info_bytes s.ffa (version_of s s.runner) s.parties (uuid_bytes uuid)))).pages) [
         | true ↦ same
-        | false ↦ by_info (info_bytes (version_of s s.runner) s.parties (uuid_bytes uuid))
+        | false ↦ by_info (info_bytes s.ffa (version_of s s.runner) s.parties (uuid_bytes uuid))
       ]
   kept-service (Version word) by_send by_memory none = version-leaves (λ t. R t.pages) s.ffa s word same (λ version. same)
   kept-service (MsgWait flags) by_send by_memory none = waited-kept (λ t. R t.pages) s flags same same

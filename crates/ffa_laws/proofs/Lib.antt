@@ -25,7 +25,9 @@ pub mod Holders
 pub mod Given
 pub mod ReclaimLaws
 pub mod ReturnLaws
+pub mod ReadBacks
 pub mod Taken
+pub mod HypervisorLaws
 pub mod RetrieveLaws
 pub mod Replays
 pub mod OwnAccesses

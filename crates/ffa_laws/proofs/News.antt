@@ -50,6 +50,7 @@ use Rattle.ffa_laws.proofs.Closed.{get-remove}
 use Rattle.ffa_laws.proofs.Laws.{other-call}
 use Rattle.ffa_laws.proofs.Meets.{are-met}
 use Rattle.ffa_laws.proofs.Opened.{get-insert}
+use Rattle.ffa_laws.proofs.ReadBacks.{by-either, tells-nothing}
 use Rattle.ffa_laws.proofs.ReclaimLaws.{seen-whole}
 use Rattle.ffa_laws.proofs.Rows.{all-weaker, is_public, passed-row, public-step, row-of, rows, told_row}
 use Rattle.ffa_laws.proofs.SendLaws.{fresh, offer}
@@ -325,7 +326,9 @@ module _ (e : ℕ) (s : State) (steady : IsSteady s) where
   news-told (MemDonate x) none = news-sent Donate x none
   news-told (MemLend x) none = news-sent Lend x none
   news-told (MemShare x) none = news-sent Share x none
-  news-told (MemRetrieve x) none = news-taken x (taken s x none)
+  news-told (MemRetrieve x) none =
+      by-either s x (λ c. first_failure c.guards ≡ None → AreNews e v (takes e s (retrieve_read s x.total))) (λ passed. news-taken x (taken s x passed))
+      (λ back passed. subst (AreNews e v) (sym (tells-nothing e s x back)) tt) none
   news-told MemRelinquish none = news-released none
   news-told (MemReclaim handle flags) none = news-reclaimed handle.0
   news-told (BitmapDestroy endpoint) none = news-unbinds 0 e (listed 64 (λ k. k)) (rising-from 0 64 (λ k. k) (λ i. omega arith))

@@ -15,7 +15,7 @@ use Rattle.ffa_model.specs.declared.rights.Kind.TheVariants.{Share, Lend, Donate
 use Rattle.ffa_model.specs.Buffers.{filled}
 use Rattle.ffa_model.specs.Calls.{first_failure}
 use Rattle.ffa_model.specs.Memory.{fetch_fault, number_at, read_fault, size_of, store_fault, stored}
-use Rattle.ffa_model.specs.MemoryRetrieve.{memory_retrieve}
+use Rattle.ffa_model.specs.MemoryRetrieve.{receiver_retrieve}
 use Rattle.ffa_model.specs.MemoryReturn.{relinquish_read, relinquished, relinquished_from}
 use Rattle.ffa_model.specs.MemorySend.{memory_send, memory_sent, send_guards, send_read, transaction_sent}
 use Rattle.ffa_model.specs.Registers.{decode}
@@ -28,6 +28,7 @@ use Rattle.ffa_model.specs.Transactions.{holding, next_handle, not_holding, open
 use Rattle.ffa_laws.proofs.Closed.{get-remove}
 use Rattle.ffa_laws.proofs.Form.{accessed-kept, served-kept, waited-kept}
 use Rattle.ffa_laws.proofs.Opened.{Transactions, get-insert}
+use Rattle.ffa_laws.proofs.ReadBacks.{retrieve-kept}
 use Rattle.ffa_laws.proofs.SendLaws.{IsOffer, no-offer, offer}
 use Rattle.ffa_laws.proofs.Taken as retrieve
 use Rattle.ffa_laws.proofs.Versions.{version-leaves}
@@ -90,7 +91,7 @@ module _ (s : State) (h : ℕ) where
                 ranges = refl;
               })
 
-  comes-retrieved : (x : Transfer) → Taken s x → Comes s h (memory_retrieve s x).state
+  comes-retrieved : (x : Transfer) → Taken s x → Comes s h (receiver_retrieve s x).state
   comes-retrieved x its = subst (Comes s h) (sym (state-taken s x its)) (inl (of its.of.kind))
     where
       of : (kind : Kind) → Lasts s.transactions (retrieve.taken_as s x its kind).transactions h
@@ -108,7 +109,7 @@ module _ (s : State) (h : ℕ) where
 
   comes-service : (call : calls.Call) → first_failure (service s call).guards ≡ None → Comes s h (service s call).state
   comes-service (PartitionInfoGet uuid flags) none =
-      elim (is_count_alone flags) as (λ b. Comes s h (cond b s (filled s s.runner (info_bytes (version_of s s.runner) s.parties (uuid_bytes uuid))))) [
+      elim (is_count_alone flags) as (λ b. Comes s h (cond b s (filled s s.runner (info_bytes s.ffa (version_of s s.runner) s.parties (uuid_bytes uuid))))) [
         | true ↦ stays
         | false ↦ inl (same-open s.transactions h)
       ]
@@ -117,7 +118,8 @@ module _ (s : State) (h : ℕ) where
   comes-service (MemDonate x) none = comes-sent Donate x none
   comes-service (MemLend x) none = comes-sent Lend x none
   comes-service (MemShare x) none = comes-sent Share x none
-  comes-service (MemRetrieve x) none = comes-retrieved x (taken s x none)
+  comes-service (MemRetrieve x) none =
+      retrieve-kept (Comes s h) s x (λ passed. comes-retrieved x (taken s x passed)) stays (λ bytes. inl (same-open s.transactions h)) none
   comes-service MemRelinquish none = comes-relinquished (relinquish_read s)
   comes-service (MemReclaim handle flags) none = inl (without-open s.transactions handle.0 h)
   comes-service call none = inl (same-open s.transactions h)

@@ -23,7 +23,7 @@ use Rattle.ffa_model.specs.Access.{access, held_by, is_offered, is_receiver, nam
 use Rattle.ffa_model.specs.Buffers.{filled}
 use Rattle.ffa_model.specs.Calls.{first_failure}
 use Rattle.ffa_model.specs.Memory.{fetch_fault, number_at, read_fault, size_of, store_fault, stored, with_pages}
-use Rattle.ffa_model.specs.MemoryRetrieve.{donated_page, memory_retrieve}
+use Rattle.ffa_model.specs.MemoryRetrieve.{donated_page, receiver_retrieve}
 use Rattle.ffa_model.specs.MemoryReturn.{is_unheld, memory_reclaim, memory_relinquish, named_ranges, reclaim_guards, reclaimed, relinquish_guards, relinquish_read, relinquished, relinquished_from}
 use Rattle.ffa_model.specs.MemorySend.{memory_send, memory_sent, send_guards, send_read, transaction_sent}
 use Rattle.ffa_model.specs.Messages.{header_in, message_in, tx_bytes}
@@ -42,6 +42,7 @@ use Rattle.ffa_laws.specs.Moves.{by_runner}
 use Rattle.ffa_laws.specs.OwnAccess.{AreApart, IsSameOrNone, OwnAccess, gives_access, is_call, takes_access}
 use Rattle.ffa_laws.proofs.Form.{accessed-kept, served-kept, waited-kept}
 use Rattle.ffa_laws.proofs.Opened.{opened, transaction_at-opened}
+use Rattle.ffa_laws.proofs.ReadBacks.{retrieve-kept}
 use Rattle.ffa_laws.proofs.SendLaws.{IsOffer, alone, free, fresh, no-offer, offer}
 use Rattle.ffa_laws.proofs.Taken as retrieve
 use Rattle.ffa_laws.proofs.Taken.{Taken, state-taken, taken}
@@ -330,7 +331,7 @@ module _ (s : State) (steady : IsSteady s) where
         of Donate is = given-own is
         of _ is = held-own
 
-    retrieved-own : Own s (memory_retrieve s x).state true false
+    retrieved-own : Own s (receiver_retrieve s x).state true false
     retrieved-own =
         subst (λ t. Own s t true false) (sym (state-taken s x its))
         (record {
@@ -343,9 +344,9 @@ module _ (s : State) (steady : IsSteady s) where
   -- ---- any call, and any operation
   own-service : (call : calls.Call) → first_failure (service s call).guards ≡ None → Own s (service s call).state (gives_access call) (takes_access call)
   own-service (PartitionInfoGet uuid flags) none =
-      elim (is_count_alone flags) as (λ b. Own s (cond b s (filled s s.runner (info_bytes (version_of s s.runner) s.parties (uuid_bytes uuid)))) false false) [
+      elim (is_count_alone flags) as (λ b. Own s (cond b s (filled s s.runner (info_bytes s.ffa (version_of s s.runner) s.parties (uuid_bytes uuid)))) false false) [
         | true ↦ as_before s s false false (λ e p. refl)
-        | false ↦ as_before s (filled s s.runner (info_bytes (version_of s s.runner) s.parties (uuid_bytes uuid))) false false (access-filled s s.runner (info_bytes (version_of s s.runner) s.parties (uuid_bytes uuid)))
+        | false ↦ as_before s (filled s s.runner (info_bytes s.ffa (version_of s s.runner) s.parties (uuid_bytes uuid))) false false (access-filled s s.runner (info_bytes s.ffa (version_of s s.runner) s.parties (uuid_bytes uuid)))
       ]
   own-service (Version word) none = version-leaves (λ t. Own s t false false) s.ffa s word (as_before s s false false (λ e p. refl)) (λ version. as_before s (with_version s s.runner version) false false (λ e p. refl))
   own-service (MsgWait flags) none =
@@ -354,7 +355,8 @@ module _ (s : State) (steady : IsSteady s) where
   own-service (MemLend x) none = send-own Lend x true (λ is. absurd (true≢false is)) none
   own-service (MemShare x) none = send-own Share x false (λ is. refl) none
   own-service (MemRetrieve x) none =
-      retrieved-own x (taken s x none)
+      retrieve-kept (λ t. Own s t true false) s x (λ passed. retrieved-own x (taken s x passed)) (as_before s s true false (λ e p. refl))
+      (λ bytes. as_before s (filled s s.runner bytes) true false (access-filled s s.runner bytes)) none
   own-service MemRelinquish none = relinquish-own none
   own-service (MemReclaim handle flags) none = reclaim-own handle.0 flags none
   own-service MsgSend2 none =

@@ -29,6 +29,7 @@ use Rattle.ffa_model.proofs.Places.{same-known}
 use Rattle.ffa_laws.specs.Steady.{IsSteady}
 use Rattle.ffa_laws.specs.Isolation.{is_rx}
 use Rattle.ffa_laws.proofs.Form.{accessed-kept, served-kept, waited-kept}
+use Rattle.ffa_laws.proofs.ReadBacks.{either-kept}
 use Rattle.ffa_laws.proofs.Versions.{version-leaves}
 use Rattle.ffa_laws.proofs.Written.{at-changed, is_at, with_rx_full}
 
@@ -72,11 +73,12 @@ module _ (s : State) (steady : IsSteady s) (e : ℕ) (known : is_known s e ≡ t
   rx-service (RxtxMap tx rx pages) = rx-beside (Some (new_buffers s.ram_base tx rx pages))
   rx-service (RxtxUnmap endpoint) = rx-beside None
   rx-service (PartitionInfoGet uuid flags) =
-      elim (is_count_alone flags) as (λ b. is_rx (cond b s (filled s s.runner (info_bytes (version_of s s.runner) s.parties (uuid_bytes uuid)))) e p ≡ is_rx s e p) [ true ↦ refl | false ↦ rx-filled s.runner true ]
+      elim (is_count_alone flags) as (λ b. is_rx (cond b s (filled s s.runner (info_bytes s.ffa (version_of s s.runner) s.parties (uuid_bytes uuid)))) e p ≡ is_rx s e p) [ true ↦ refl | false ↦ rx-filled s.runner true ]
   rx-service (MemDonate x) = rx-sent Donate (send_read s Donate x.total)
   rx-service (MemLend x) = rx-sent Lend (send_read s Lend x.total)
   rx-service (MemShare x) = rx-sent Share (send_read s Share x.total)
-  rx-service (MemRetrieve x) = rx-retrieved (retrieve_read s x.total)
+  rx-service (MemRetrieve x) =
+      either-kept (λ t. is_rx t e p ≡ is_rx s e p) s x (rx-retrieved (retrieve_read s x.total)) refl (λ bytes. rx-filled s.runner true)
   rx-service MemRelinquish = rx-relinquished (relinquish_read s)
   rx-service MsgSend2 = rx-filled (header_in (tx_bytes s s.runner)).receiver true
   rx-service call = refl

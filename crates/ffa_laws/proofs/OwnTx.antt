@@ -20,7 +20,7 @@ use Rattle.ffa_model.specs.Calls.{first_failure}
 use Rattle.ffa_model.specs.Identifiers.{place}
 use Rattle.ffa_model.specs.Lists.{is_in_run}
 use Rattle.ffa_model.specs.Memory.{page_bytes, zeroed_if, zeroed_page}
-use Rattle.ffa_model.specs.MemoryRetrieve.{memory_retrieve}
+use Rattle.ffa_model.specs.MemoryRetrieve.{receiver_retrieve}
 use Rattle.ffa_model.specs.MemoryReturn.{named_ranges, relinquish_read, relinquished, relinquished_from}
 use Rattle.ffa_model.specs.MemorySend.{is_buffer, is_sendable, memory_send, memory_sent, send_guards, send_read}
 use Rattle.ffa_model.specs.Messages.{header_in, message_in, msg_send2, send2_guards, tx_bytes}
@@ -45,6 +45,7 @@ use Rattle.ffa_laws.specs.Writers.{LeavesTx}
 use Rattle.ffa_laws.proofs.Form.{served-kept, waited-kept}
 use Rattle.ffa_laws.proofs.Integrities.{bytes_of}
 use Rattle.ffa_laws.proofs.NoMore.{reads_no_more}
+use Rattle.ffa_laws.proofs.ReadBacks.{retrieve-kept}
 use Rattle.ffa_laws.proofs.SendLaws.{IsOffer, no-offer, offer}
 use Rattle.ffa_laws.proofs.SoundSteady.{sound-steady}
 use Rattle.ffa_laws.proofs.Stores.{same-beside}
@@ -112,7 +113,7 @@ module _ (s : State) (sound : IsSoundState s) (b : Buffers) (has : buffers_of s 
       of None none = absurd (no-offer s x none)
       of (Some r) none = off-zeros r.zero r.ranges (not-sent r (offer s x r none))
 
-  retrieve-off : (x : Transfer) → Taken s x → bytes_in (memory_retrieve s x).state.pages p ≡ bytes_in s.pages p
+  retrieve-off : (x : Transfer) → Taken s x → bytes_in (receiver_retrieve s x).state.pages p ≡ bytes_in s.pages p
   retrieve-off x took =
       ap (λ (t : State). bytes_in t.pages p) (state-taken s x took)
       ∙ by-runner (retrieve.before s x took).pages (retrieve.response s x took)
@@ -147,16 +148,17 @@ module _ (s : State) (sound : IsSoundState s) (b : Buffers) (has : buffers_of s 
 
   off-service : (call : calls.Call) → first_failure (service s call).guards ≡ None → page_bytes (service s call).state p ≡ page_bytes s p
   off-service (PartitionInfoGet uuid flags) none =
-      elim (is_count_alone flags) as (λ c. page_bytes (cond c s (filled s s.runner (info_bytes (version_of s s.runner) s.parties (uuid_bytes uuid)))) p ≡ page_bytes s p) [
+      elim (is_count_alone flags) as (λ c. page_bytes (cond c s (filled s s.runner (info_bytes s.ffa (version_of s s.runner) s.parties (uuid_bytes uuid)))) p ≡ page_bytes s p) [
         | true ↦ refl
-        | false ↦ by-runner s.pages (info_bytes (version_of s s.runner) s.parties (uuid_bytes uuid))
+        | false ↦ by-runner s.pages (info_bytes s.ffa (version_of s s.runner) s.parties (uuid_bytes uuid))
       ]
   off-service (Version word) none = version-leaves (λ t. page_bytes t p ≡ page_bytes s p) s.ffa s word refl (λ version. refl)
   off-service (MsgWait flags) none = waited-kept (λ t. page_bytes t p ≡ page_bytes s p) s flags refl refl
   off-service (MemDonate x) none = send-off Donate x none
   off-service (MemLend x) none = send-off Lend x none
   off-service (MemShare x) none = send-off Share x none
-  off-service (MemRetrieve x) none = retrieve-off x (taken s x none)
+  off-service (MemRetrieve x) none =
+      retrieve-kept (λ t. page_bytes t p ≡ page_bytes s p) s x (λ passed. retrieve-off x (taken s x passed)) refl (by-runner s.pages) none
   off-service MemRelinquish none = relinquish-off (relinquish_read s)
   off-service (MemReclaim handle flags) none = reclaim-off handle.0 (is_set 0 flags)
   off-service MsgSend2 none = message-off none

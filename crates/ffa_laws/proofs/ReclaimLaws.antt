@@ -34,7 +34,7 @@ seen-whole e t mine =
     ap (λ b. option_map (seen_by e) (kept (b || is_receiver e t) (Some t))) mine
     ∙ (λ i. Some (record t { held = cond (mine i) t.held (finite.retain_keys t.held (λ f. f == e)) }))
 
-from-seen : (e : ℕ) (t : Transaction) → (t.sender == e) ≡ false → is_from e (shown e (Some t)) ≡ false
+pub from-seen : (e : ℕ) (t : Transaction) → (t.sender == e) ≡ false → is_from e (shown e (Some t)) ≡ false
 from-seen e t other =
     ap (λ b. is_from e (option_map (seen_by e) (kept (b || is_receiver e t) (Some t)))) other
     ∙ elim (is_receiver e t) as (λ b. is_from e (option_map (seen_by e) (kept b (Some t))) ≡ false) [ true ↦ other | false ↦ refl ]

@@ -1,10 +1,9 @@
 -- SPDX-License-Identifier: MIT OR Apache-2.0
 -- FFA_MEM_RETRIEVE_REQ, in the runner's view, and to others.
-use Rattle.std.proofs.Common.{◌≡◌, ◌≢◌, ◌∙◌, ℕ, Bool, true, false, cond, List, [], ◌∷◌, ◌++◌, length, take, Option, Some, None, refl, sym, ap, inl, inr, arith, length-set, ◌==◌, ◌||◌, not, is_none, nat_le}
+use Rattle.std.proofs.Common.{◌≡◌, ◌≢◌, ◌∙◌, ℕ, Bool, true, false, cond, List, [], ◌∷◌, ◌++◌, length, Option, Some, None, refl, sym, ap, subst, inl, inr, arith, length-set, ◌==◌, ◌||◌, not, is_none, nat_le}
 use Rattle.std.specs.Option.{option_map, option_map_or}
 use Rattle.std.specs.FinMap as finite
 use Rattle.std.proofs.lemmas.Bool.{cases_Bool, false≢true}
-use Rattle.ffa_model.specs.DescriptorPlaces.{in_version}
 use Rattle.ffa_model.specs.declared.descriptor.RetrieveDesc.{RetrieveDesc}
 use Rattle.ffa_model.specs.declared.operation.ErrorCode.TheVariants.{InvalidParameters}
 use Rattle.ffa_model.specs.declared.call.Reply.TheVariants.{Retrieved}
@@ -19,11 +18,14 @@ use Rattle.ffa_model.specs.Buffers.{buffers_in, buffers_with_rx, filled, is_full
 use Rattle.ffa_model.specs.RefusalCodes.{code_of}
 use Rattle.ffa_model.specs.Calls.{first_failure}
 use Rattle.ffa_model.specs.ResponseBytes.{response_bytes, response_size}
-use Rattle.ffa_model.specs.RetrieveDescriptor.{retrieve_of}
+use Rattle.ffa_model.specs.RetrieveDescriptor.{endpoints_named, retrieve_of}
+use Rattle.ffa_model.specs.HypervisorRetrieve.{asks_back, memory_retrieve, retrieve_by}
+use Rattle.ffa_model.specs.declared.manifest.Ffa.{Ffa}
+use Rattle.ffa_model.specs.declared.manifest.Ffa.TheVariants.{V1_1, V1_2}
 use Rattle.ffa_model.specs.RunStates.{schedule_of}
 use Rattle.ffa_model.specs.declared.call.Transfer.{Transfer}
 use Rattle.ffa_model.specs.Transactions.{ceiling, holding, open_of, scene_of, with_open, with_transaction}
-use Rattle.ffa_model.specs.MemoryRetrieve.{response_to, asked_right, asking_guards, donated_if, holding_guards, is_kind_right, memory_retrieve, response_length, retrieve_guards, retrieve_read, retrieved, retrieved_from, retrieved_right, right_for, taken_in, with_retrieved}
+use Rattle.ffa_model.specs.MemoryRetrieve.{response_to, asked_right, asking_guards, donated_if, holding_guards, is_kind_right, named_read, names_receivers, receiver_retrieve, response_length, retrieve_guards, retrieve_read, retrieved, retrieved_from, retrieved_right, right_for, taken_in, with_retrieved}
 use Rattle.ffa_laws.specs.Steady.{IsSteady}
 use Rattle.ffa_laws.specs.View.{view, involves, is_near, kept, seen_by}
 use Rattle.ffa_laws.specs.Events.{Event, apply_all, public_change, takes, takes_from, taking, where_true, with_holder}
@@ -34,7 +36,9 @@ use Rattle.ffa_laws.proofs.Changes.{other-told, seen_buffers, view-changed, with
 use Rattle.ffa_laws.proofs.Form.{IsOwn}
 use Rattle.ffa_laws.proofs.Given.{view-lost, view-taken, view-unlost}
 use Rattle.ffa_laws.proofs.Holders.{Holders, reheld, seen-taken, seen-unheld, view-reheld, view-untold}
-use Rattle.ffa_laws.proofs.MessageLaws.{full-seen, some-seen, tx-seen, room-seen}
+use Rattle.ffa_laws.proofs.MessageLaws.{full-seen, some-seen, room-seen}
+use Rattle.ffa_laws.proofs.HypervisorLaws.{asks-seen, descriptor-seen, other-back, own-back}
+use Rattle.ffa_laws.proofs.ReadBacks.{by-either}
 use Rattle.ffa_laws.proofs.ReclaimLaws.{seen-whole}
 use Rattle.ffa_laws.proofs.Told.{IsTold}
 use Rattle.ffa_laws.proofs.Views.{held-seen, shown, view-transaction}
@@ -51,11 +55,13 @@ first-fails false code guards is = refl
 first-fails true code guards is = absurd (false≢true (sym is))
 
 -- what e isn't offered, it can't retrieve
-not-offered : (ram : Ownership) (full : Bool) (e : ℕ) (d : RetrieveDesc) (o : Option Transaction) → is_offered e o ≡ false → first_failure (holding_guards ram full e d o) ≡ Some InvalidParameters
-not-offered ram full e d None is = refl
-not-offered ram full e d (Some t) is =
+not-offered : (ffa : Ffa) (ram : Ownership) (full : Bool) (e : ℕ) (named : List ℕ) (d : RetrieveDesc) (o : Option Transaction) → is_offered e o ≡ false
+    → first_failure (holding_guards ffa ram full e named d o) ≡ Some InvalidParameters
+not-offered ffa ram full e named d None is = refl
+not-offered ffa ram full e named d (Some t) is =
     first-fails (is_receiver e t) invalid
-    ((d.sender.0 == t.sender, invalid)
+    ((names_receivers ffa named t, invalid)
+    ∷ (d.sender.0 == t.sender, invalid)
     ∷ (d.tag == t.tag, invalid)
     ∷ (is_kind_right t.kind d.kind, invalid)
     ∷ (is_none (held_by t e), denied)
@@ -63,6 +69,11 @@ not-offered ram full e d (Some t) is =
     ∷ (not full, busy)
     ∷ [])
     is
+
+-- whom the caller names is compared with receivers, whom it sees
+names-seen : (ffa : Ffa) (e : ℕ) (named : List ℕ) (t : Transaction) → names_receivers ffa named (seen_by e t) ≡ names_receivers ffa named t
+names-seen V1_1 e named t = refl
+names-seen V1_2 e named t = refl
 
 offered-involved : (e : ℕ) (t : Transaction) → is_receiver e t ≡ true → involves e (Some t) ≡ true
 offered-involved e t receiver = ap (λ b. t.sender == e || b) receiver ∙ grind (arith, cases_Bool (t.sender == e))
@@ -74,16 +85,17 @@ module _ (s : State) (steady : IsSteady s) where
   abbrev full : Bool
   full = is_full (buffers_in s.buffers s.runner)
 
-  same-failure : (d : RetrieveDesc) (o : Option Transaction) → transaction_of s d.handle ≡ o
-      → first_failure (holding_guards (ownership_of v) full s.runner d (shown s.runner o)) ≡ first_failure (holding_guards (ownership_of s) full s.runner d o)
-  same-failure d None there = refl
-  same-failure d (Some t) there =
-      elim (is_receiver s.runner t) as (λ b. is_receiver s.runner t ≡ b → first_failure (holding_guards (ownership_of v) full s.runner d (shown s.runner (Some t))) ≡ first_failure (holding_guards (ownership_of s) full s.runner d (Some t))) [
+  same-failure : (named : List ℕ) (d : RetrieveDesc) (o : Option Transaction) → transaction_of s d.handle ≡ o
+      → first_failure (holding_guards s.ffa (ownership_of v) full s.runner named d (shown s.runner o)) ≡ first_failure (holding_guards s.ffa (ownership_of s) full s.runner named d o)
+  same-failure named d None there = refl
+  same-failure named d (Some t) there =
+      elim (is_receiver s.runner t) as (λ b. is_receiver s.runner t ≡ b → first_failure (holding_guards s.ffa (ownership_of v) full s.runner named d (shown s.runner (Some t))) ≡ first_failure (holding_guards s.ffa (ownership_of s) full s.runner named d (Some t))) [
         | true ↦ λ receiver.
             let known = offered-involved s.runner t receiver in
-            ap (λ b. first_failure (holding_guards (ownership_of v) full s.runner d (option_map (seen_by s.runner) (kept b (Some t))))) known
+            ap (λ b. first_failure (holding_guards s.ffa (ownership_of v) full s.runner named d (option_map (seen_by s.runner) (kept b (Some t))))) known
             ∙ (λ i. first_failure (
             (is_receiver s.runner t, invalid)
+            ∷ (names-seen s.ffa s.runner named t i, invalid)
             ∷ (d.sender.0 == t.sender, invalid)
             ∷ (d.tag == t.tag, invalid)
             ∷ (is_kind_right t.kind d.kind, invalid)
@@ -92,16 +104,16 @@ module _ (s : State) (steady : IsSteady s) where
             ∷ (not full, busy)
             ∷ []))
         | false ↦ λ other.
-            not-offered (ownership_of v) full s.runner d (shown s.runner (Some t))
+            not-offered s.ffa (ownership_of v) full s.runner named d (shown s.runner (Some t))
             (elim (involves s.runner (Some t)) as (λ b. is_offered s.runner (option_map (seen_by s.runner) (kept b (Some t))) ≡ false) [ true ↦ other | false ↦ refl ])
-            ∙ sym (not-offered (ownership_of s) full s.runner d (Some t) other)
+            ∙ sym (not-offered s.ffa (ownership_of s) full s.runner named d (Some t) other)
       ] refl
 
-  same-asking : (o : Option RetrieveDesc) → first_failure (asking_guards (scene_of v) s.runner o) ≡ first_failure (asking_guards (scene_of s) s.runner o)
-  same-asking None = refl
-  same-asking (Some d) =
-      (λ i. first_failure (holding_guards (ownership_of v) (full-seen s steady s.runner i) s.runner d (view-transaction s.runner s d.handle i)))
-      ∙ same-failure d (transaction_of s d.handle) refl
+  same-asking : (named : List ℕ) (o : Option RetrieveDesc) → first_failure (asking_guards s.ffa (scene_of v) s.runner named o) ≡ first_failure (asking_guards s.ffa (scene_of s) s.runner named o)
+  same-asking named None = refl
+  same-asking named (Some d) =
+      (λ i. first_failure (holding_guards s.ffa (ownership_of v) (full-seen s steady s.runner i) s.runner named d (view-transaction s.runner s d.handle i)))
+      ∙ same-failure named d (transaction_of s d.handle) refl
 
   -- checks before others that give the same
   same-checks : (x : Transfer) (rest other : List (Bool × Refusal)) → first_failure rest ≡ first_failure other → first_failure (checks v x rest) ≡ first_failure (checks s x other)
@@ -109,12 +121,13 @@ module _ (s : State) (steady : IsSteady s) where
       λ i. cond (some-seen s steady s.runner i) (cond (x.total == x.fragment) (cond (nat_le x.total (room-seen s steady s.runner i)) (cond (x.address == 0) (cond (x.pages == 0) (same i) (Some InvalidParameters)) (Some InvalidParameters)) (Some InvalidParameters)) (Some InvalidParameters)) (Some InvalidParameters)
 
   same-read : (total : ℕ) → retrieve_read v total ≡ retrieve_read s total
-  same-read total = λ i. retrieve_of s.runner (in_version (version-seen s.runner s steady.runner i) (take total (tx-seen s steady i)))
+  same-read total = ap (retrieve_of s.ffa s.runner) (descriptor-seen s steady total)
 
-  same-guards : (x : Transfer) → first_failure (memory_retrieve v x).guards ≡ first_failure (memory_retrieve s x).guards
+  same-guards : (x : Transfer) → first_failure (receiver_retrieve v x).guards ≡ first_failure (receiver_retrieve s x).guards
   same-guards x =
-      ap (λ d. first_failure (retrieve_guards (scene_of v) s.runner x d)) (same-read x.total)
-      ∙ same-checks x (asking_guards (scene_of v) s.runner (retrieve_read s x.total)) (asking_guards (scene_of s) s.runner (retrieve_read s x.total)) (same-asking (retrieve_read s x.total))
+      let named = named_read s x.total in
+      (λ i. first_failure (retrieve_guards s.ffa (scene_of v) s.runner x (endpoints_named (descriptor-seen s steady x.total i)) (same-read x.total i)))
+      ∙ same-checks x (asking_guards s.ffa (scene_of v) s.runner named (retrieve_read s x.total)) (asking_guards s.ffa (scene_of s) s.runner named (retrieve_read s x.total)) (same-asking named (retrieve_read s x.total))
 
 -- ---- the state
 module _ (s : State) (steady : IsSteady s) (x : Transfer) (its : Taken s x) where
@@ -160,7 +173,7 @@ module _ (s : State) (steady : IsSteady s) (x : Transfer) (its : Taken s x) wher
       kinds Lend = held
       kinds Donate = sym (view-taken s steady h t its.is.there s.runner right known)
 
-  own-state : (memory_retrieve seen x).state ≡ view s.runner (memory_retrieve s x).state
+  own-state : (receiver_retrieve seen x).state ≡ view s.runner (receiver_retrieve s x).state
   own-state =
       ap (retrieved seen) (same-read s steady x.total ∙ its.read)
       ∙ ap (retrieved_from seen its.asked) seen-there
@@ -171,13 +184,13 @@ module _ (s : State) (steady : IsSteady s) (x : Transfer) (its : Taken s x) wher
       ∙ view-filled s.runner before response steady.runner
       ∙ sym (ap (view s.runner) (state-taken s x its))
 
-  own-reply : (memory_retrieve seen x).reply ≡ (memory_retrieve s x).reply
+  own-reply : (receiver_retrieve seen x).reply ≡ (receiver_retrieve s x).reply
   own-reply =
       ap Retrieved (
       ap (response_length seen) (same-read s steady x.total ∙ its.read)
-      ∙ ap (λ version. option_map_or (λ (u : Transaction). response_size version u.ranges) (transaction_of seen h) 0) (version-seen s.runner s steady.runner)
-      ∙ ap (λ o. option_map_or (λ (u : Transaction). response_size (version_of s s.runner) u.ranges) o 0) seen-there
-      ∙ sym (ap (response_length s) its.read ∙ ap (λ o. option_map_or (λ (u : Transaction). response_size (version_of s s.runner) u.ranges) o 0) its.is.there))
+      ∙ ap (λ version. option_map_or (λ (u : Transaction). response_size version 1 u.ranges) (transaction_of seen h) 0) (version-seen s.runner s steady.runner)
+      ∙ ap (λ o. option_map_or (λ (u : Transaction). response_size (version_of s s.runner) 1 u.ranges) o 0) seen-there
+      ∙ sym (ap (response_length s) its.read ∙ ap (λ o. option_map_or (λ (u : Transaction). response_size (version_of s s.runner) 1 u.ranges) o 0) its.is.there))
 
   -- ---- to another endpoint
   module _ (e : ℕ) (other : s.runner ≢ e) where
@@ -235,10 +248,18 @@ module _ (s : State) (steady : IsSteady s) (x : Transfer) (its : Taken s x) wher
         (sym told-before) view-after
 
 pub own-retrieve : (s : State) → IsSteady s → (x : Transfer) → IsOwn s (memory_retrieve (view s.runner s) x) (memory_retrieve s x)
-own-retrieve s steady x = (same-guards s steady x, λ none. (own-state s steady x (taken s x none), own-reply s steady x (taken s x none)))
+own-retrieve s steady x =
+    subst (λ b. IsOwn s (retrieve_by b (view s.runner s) x) (memory_retrieve s x)) (sym (asks-seen s steady x)) (of (asks_back s x))
+  where
+    of : (b : Bool) → IsOwn s (retrieve_by b (view s.runner s) x) (retrieve_by b s x)
+    of true = own-back s steady x
+    of false = (same-guards s steady x, λ none. (own-state s steady x (taken s x none), own-reply s steady x (taken s x none)))
 
 pub other-retrieve : (e : ℕ) (s : State) → IsSteady s → s.runner ≢ e → (x : Transfer) → IsTold e s (memory_retrieve s x) (takes e s (retrieve_read s x.total))
-other-retrieve e s steady other x none =
+other-retrieve e s steady other x =
+    by-either s x (λ c. IsTold e s c (takes e s (retrieve_read s x.total)))
+    (λ none.
     let its = taken s x none in
     ap (view e) (state-taken s x its) ∙ told-taken s steady x its e other
-    ∙ (λ i. apply_all e (view e s) (sym (ap (takes e s) its.read ∙ ap (takes_from e s its.asked) its.is.there) i ++ public_change s (sym (state-taken s x its) i)))
+    ∙ (λ i. apply_all e (view e s) (sym (ap (takes e s) its.read ∙ ap (takes_from e s its.asked) its.is.there) i ++ public_change s (sym (state-taken s x its) i))))
+    (other-back s steady e other x)

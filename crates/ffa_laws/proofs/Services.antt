@@ -161,7 +161,7 @@ module _ (e : ℕ) (s : State) (differ : s.runner ≢ e) where
   shows-service (MemDonate x) = quiet e s differ (service s (MemDonate x)) (told_by e s (MemDonate x)) (no_opening e s Donate (send_read s Donate x.total)) (offered-runs s Donate (send_read s Donate x.total))
   shows-service (MemLend x) = quiet e s differ (service s (MemLend x)) (told_by e s (MemLend x)) (no_opening e s Lend (send_read s Lend x.total)) (offered-runs s Lend (send_read s Lend x.total))
   shows-service (MemShare x) = quiet e s differ (service s (MemShare x)) (told_by e s (MemShare x)) (no_opening e s Share (send_read s Share x.total)) (offered-runs s Share (send_read s Share x.total))
-  shows-service (MemRetrieve x) = quiet e s differ (service s (MemRetrieve x)) (told_by e s (MemRetrieve x)) (no_takes e s (retrieve_read s x.total)) (retrieved-runs s (retrieve_read s x.total))
+  shows-service (MemRetrieve x) = quiet e s differ (service s (MemRetrieve x)) (told_by e s (MemRetrieve x)) (no_takes e s (retrieve_read s x.total)) (retrieved-runs s x)
   shows-service MemRelinquish = quiet e s differ (service s MemRelinquish) (told_by e s MemRelinquish) (no_releases e s (relinquish_read s)) (relinquished-runs s (relinquish_read s))
   shows-service (MemReclaim handle flags) = quiet e s differ (service s (MemReclaim handle flags)) (told_by e s (MemReclaim handle flags)) (no_message e (is_offered e (transaction_of s handle.0)) (Closed handle.0) refl) refl
   shows-service (BitmapCreate endpoint contexts) = quiet e s differ (service s (BitmapCreate endpoint contexts)) (told_by e s (BitmapCreate endpoint contexts)) refl refl
@@ -196,9 +196,9 @@ module _ (s : State) (sound : IsSoundState s) where
   sound-service (RxtxMap tx rx pages) none = map-sound s sound tx rx pages none
   sound-service (RxtxUnmap endpoint) none = unmap-sound s sound
   sound-service (PartitionInfoGet uuid flags) none =
-      elim (is_count_alone flags) as (λ b. IsSoundState (cond b s (filled s s.runner (info_bytes (version_of s s.runner) s.parties (uuid_bytes uuid))))) [
+      elim (is_count_alone flags) as (λ b. IsSoundState (cond b s (filled s s.runner (info_bytes s.ffa (version_of s s.runner) s.parties (uuid_bytes uuid))))) [
         | true ↦ sound
-        | false ↦ filled-state-sound s sound s.runner (info_bytes (version_of s s.runner) s.parties (uuid_bytes uuid)) (informed-sound s sound (uuid_bytes uuid) (buffers_of s s.runner))
+        | false ↦ filled-state-sound s sound s.runner (info_bytes s.ffa (version_of s s.runner) s.parties (uuid_bytes uuid)) (informed-sound s sound (uuid_bytes uuid) (buffers_of s s.runner))
       ]
   sound-service IdGet none = sound
   sound-service SpmIdGet none = sound
@@ -243,6 +243,6 @@ module _ (s : State) (sound : IsSoundState s) where
   elsewhere-service (MemDonate x) none = same-runs _ (offered-runs s Donate (send_read s Donate x.total))
   elsewhere-service (MemLend x) none = same-runs _ (offered-runs s Lend (send_read s Lend x.total))
   elsewhere-service (MemShare x) none = same-runs _ (offered-runs s Share (send_read s Share x.total))
-  elsewhere-service (MemRetrieve x) none = same-runs _ (retrieved-runs s (retrieve_read s x.total))
+  elsewhere-service (MemRetrieve x) none = same-runs _ (retrieved-runs s x)
   elsewhere-service MemRelinquish none = same-runs _ (relinquished-runs s (relinquish_read s))
   elsewhere-service call none = same-elsewhere (schedule_of s)

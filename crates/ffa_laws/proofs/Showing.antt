@@ -17,9 +17,12 @@ use Rattle.ffa_model.specs.Messages.{header_in, message_in}
 use Rattle.ffa_model.specs.Notifications.{manager_class, message_bits, has_bitmaps_in, notifications_of}
 use Rattle.ffa_model.specs.SendDescriptor.{SendRecord}
 use Rattle.ffa_model.specs.MemorySend.{memory_sent, transaction_sent}
-use Rattle.ffa_model.specs.MemoryRetrieve.{retrieved, retrieved_from}
+use Rattle.ffa_model.specs.MemoryRetrieve.{retrieve_read, retrieved, retrieved_from}
+use Rattle.ffa_model.specs.HypervisorRetrieve.{memory_retrieve}
+use Rattle.ffa_model.specs.declared.call.Transfer.{Transfer}
 use Rattle.ffa_model.specs.MemoryReturn.{relinquished, relinquished_from}
 use Rattle.ffa_laws.specs.Events.{Event, Message, Filled, Pending, Held, Zeroed, delivers, message, messages, opens, releases, switches, takes, takes_from, taking, where_true}
+use Rattle.ffa_laws.proofs.ReadBacks.{either-kept}
 
 -- events that are no messages
 pub no_message : (e : ℕ) (b : Bool) (event : Event) → message e event ≡ [] → messages e (where_true b (event ∷ [])) ≡ []
@@ -70,15 +73,18 @@ pub offered-runs : (s : State) (kind : Kind) (r : Option SendRecord) → schedul
 offered-runs s kind None = refl
 offered-runs s kind (Some r) = refl
 
-pub retrieved-runs : (s : State) (d : Option RetrieveDesc) → schedule_of (retrieved s d) ≡ schedule_of s
-retrieved-runs s None = refl
-retrieved-runs s (Some d) = elim (transaction_of s d.handle) as (λ o. schedule_of (retrieved_from s d o) ≡ schedule_of s) [ None ↦ refl | Some t ↦ refl ]
+received-runs : (s : State) (d : Option RetrieveDesc) → schedule_of (retrieved s d) ≡ schedule_of s
+received-runs s None = refl
+received-runs s (Some d) = elim (transaction_of s d.handle) as (λ o. schedule_of (retrieved_from s d o) ≡ schedule_of s) [ None ↦ refl | Some t ↦ refl ]
+
+pub retrieved-runs : (s : State) (x : Transfer) → schedule_of (memory_retrieve s x).state ≡ schedule_of s
+retrieved-runs s x = either-kept (λ t. schedule_of t ≡ schedule_of s) s x (received-runs s (retrieve_read s x.total)) refl (λ bytes. refl)
 
 pub relinquished-runs : (s : State) (d : Option RelinquishDesc) → schedule_of (relinquished s d) ≡ schedule_of s
 relinquished-runs s None = refl
 relinquished-runs s (Some d) = elim (transaction_of s d.handle) as (λ o. schedule_of (relinquished_from s d o) ≡ schedule_of s) [ None ↦ refl | Some t ↦ refl ]
 
-pub informed-runs : (s : State) (uuid : List ℕ) (b : Bool) → schedule_of (cond b s (filled s s.runner (info_bytes (version_of s s.runner) s.parties uuid))) ≡ schedule_of s
+pub informed-runs : (s : State) (uuid : List ℕ) (b : Bool) → schedule_of (cond b s (filled s s.runner (info_bytes s.ffa (version_of s s.runner) s.parties uuid))) ≡ schedule_of s
 informed-runs s uuid true = refl
 informed-runs s uuid false = refl
 

@@ -17,7 +17,6 @@ use Rattle.ffa_model.specs.declared.schedule.Work.{Work}
 use Rattle.ffa_model.specs.First.{first, first_held}
 use Rattle.ffa_model.specs.Identifiers.{place}
 use Rattle.ffa_model.specs.Memory.{fetch_fault, number_at, read_fault, size_of, store_fault, stored}
-use Rattle.ffa_model.specs.MemoryRetrieve.{retrieve_read}
 use Rattle.ffa_model.specs.MemoryReturn.{relinquish_read}
 use Rattle.ffa_model.specs.MemorySend.{send_read}
 use Rattle.ffa_model.specs.OneChain.{IsSimple}
@@ -107,7 +106,7 @@ module _ (s : State) (simple : IsSimple (schedule_of s)) where
   simple-service (MemDonate x) = same-runs _ (offered-runs s Donate (send_read s Donate x.total))
   simple-service (MemLend x) = same-runs _ (offered-runs s Lend (send_read s Lend x.total))
   simple-service (MemShare x) = same-runs _ (offered-runs s Share (send_read s Share x.total))
-  simple-service (MemRetrieve x) = same-runs _ (retrieved-runs s (retrieve_read s x.total))
+  simple-service (MemRetrieve x) = same-runs _ (retrieved-runs s x)
   simple-service MemRelinquish = same-runs _ (relinquished-runs s (relinquish_read s))
   simple-service call = simple
 

@@ -22,7 +22,7 @@ use Rattle.ffa_model.specs.Bits.{bits}
 use Rattle.ffa_model.specs.State.{State, Page, Party, Buffers, buffers_of, page_at, version_of}
 use Rattle.ffa_model.specs.Memory.{access_at, fault_of, page_bytes, page_with, run_bytes, size_of, store_fault, written_pages, written_run}
 use Rattle.ffa_model.specs.Buffers.{filled_pages}
-use Rattle.ffa_model.specs.Setup.{info_bytes, info_of, is_selected, selected, properties_info}
+use Rattle.ffa_model.specs.Setup.{info_bytes, info_of, is_selected, selected, properties_info, properties_told}
 use Rattle.ffa_model.specs.Messages.{header_in, message_in, tx_bytes}
 use Rattle.ffa_model.specs.SoundState.{IsSoundPage, IsSoundParty, IsSoundState, are_bytes}
 use Rattle.ffa_laws.proofs.ByteLists.{all-drop, all-enumerated, all-filter, all-take, both-bytes, bytes-pieces, bytes-with_bytes, length-with_bytes, number-bytes}
@@ -127,25 +127,25 @@ module _ (s : State) (sound : IsSoundState s) where
     shown_uuid x = cond (is_nil uuid) x.1.uuid (replicate 16 0)
 
     abbrev from_contexts : Version → ℕ × Party → List ℕ
-    from_contexts version x = little_bytes 2 1 ++ properties_info version uuid x.1
+    from_contexts version x = little_bytes 2 1 ++ properties_info s.ffa version uuid x.1
 
     -- in each form but the compact one
-    bytes-full : (x : ℕ × Party) → passes x ≡ true → are_bytes (little_bytes 4 (x.1.properties + 0x100) ++ shown_uuid x)
-    bytes-full x good =
-        both-bytes (little_bytes 4 (x.1.properties + 0x100)) (shown_uuid x) (number-bytes 0 4 (x.1.properties + 0x100))
+    bytes-full : (properties : ℕ) (x : ℕ × Party) → passes x ≡ true → are_bytes (little_bytes 4 (properties + 0x100) ++ shown_uuid x)
+    bytes-full properties x good =
+        both-bytes (little_bytes 4 (properties + 0x100)) (shown_uuid x) (number-bytes 0 4 (properties + 0x100))
         (elim (is_nil uuid) as (λ b. are_bytes (cond b x.1.uuid (replicate 16 0))) [ true ↦ (and_parts (length x.1.uuid == 16) _ good).1 | false ↦ refl ])
 
-    bytes-properties : (version : Version) (x : ℕ × Party) → passes x ≡ true → are_bytes (properties_info version uuid x.1)
+    bytes-properties : (version : Version) (x : ℕ × Party) → passes x ≡ true → are_bytes (properties_info s.ffa version uuid x.1)
     bytes-properties Compact x good = number-bytes 0 4 (bits 2 0 x.1.properties)
-    bytes-properties V1_1 x good = bytes-full x good
-    bytes-properties V1_2 x good = bytes-full x good
+    bytes-properties V1_1 x good = bytes-full (properties_told s.ffa V1_1 x.1.properties) x good
+    bytes-properties V1_2 x good = bytes-full (properties_told s.ffa V1_2 x.1.properties) x good
 
-    bytes-info : (version : Version) (x : ℕ × Party) → passes x ≡ true → are_bytes (info_of version uuid x)
+    bytes-info : (version : Version) (x : ℕ × Party) → passes x ≡ true → are_bytes (info_of s.ffa version uuid x)
     bytes-info version x good =
         both-bytes (little_bytes 2 (identifier x.0)) (from_contexts version x) (number-bytes 0 2 (identifier x.0))
-        (both-bytes (little_bytes 2 1) (properties_info version uuid x.1) (number-bytes 0 2 1) (bytes-properties version x good))
+        (both-bytes (little_bytes 2 1) (properties_info s.ffa version uuid x.1) (number-bytes 0 2 1) (bytes-properties version x good))
 
-    pub informed-sound : (b : Option Buffers) → AreSoundPages s (filled_pages s.pages (info_bytes (version_of s s.runner) s.parties uuid) b)
+    pub informed-sound : (b : Option Buffers) → AreSoundPages s (filled_pages s.pages (info_bytes s.ffa (version_of s s.runner) s.parties uuid) b)
     informed-sound b =
-        filled-sound s s.pages sound.pages (info_bytes (version_of s s.runner) s.parties uuid) (bytes-pieces (info_of (version_of s s.runner) uuid) passes (selected s.parties uuid) selected-sound (bytes-info (version_of s s.runner)))
+        filled-sound s s.pages sound.pages (info_bytes s.ffa (version_of s s.runner) s.parties uuid) (bytes-pieces (info_of s.ffa (version_of s s.runner) uuid) passes (selected s.parties uuid) selected-sound (bytes-info (version_of s s.runner)))
         b

@@ -16,13 +16,15 @@ use Rattle.ffa_model.specs.Calls.{first_failure}
 use Rattle.ffa_model.specs.ResponseBytes.{response_bytes}
 use Rattle.ffa_model.specs.declared.call.Transfer.{Transfer}
 use Rattle.ffa_model.specs.Transactions.{ceiling, open_of, scene_of, with_open}
-use Rattle.ffa_model.specs.MemoryRetrieve.{asking_guards, donated_if, donated_page, holding_guards, memory_retrieve, response_to, retrieve_read, retrieved, retrieved_from, right_for, taken_in}
+use Rattle.ffa_model.specs.HypervisorRetrieve.{memory_retrieve}
+use Rattle.ffa_model.specs.MemoryRetrieve.{asking_guards, donated_if, donated_page, holding_guards, named_read, receiver_retrieve, response_to, retrieve_read, retrieved, retrieved_from, right_for, taken_in}
 use Rattle.ffa_laws.specs.Steady.{IsSteady}
 use Rattle.ffa_model.proofs.Guards.{guard-passes, invalid}
 use Rattle.ffa_laws.proofs.BufferLaws.{steady-filled}
 use Rattle.ffa_laws.proofs.Changes.{page_right}
 use Rattle.ffa_laws.proofs.Given.{page-given, page-same, size-given, steady-given, unnamed-away}
 use Rattle.ffa_laws.proofs.Holders.{Holders, get-taken, reheld, steady-reheld}
+use Rattle.ffa_laws.proofs.ReadBacks.{retrieve-kept}
 use Rattle.ffa_laws.proofs.Within.{within-same, within-through}
 use Rattle.ffa_model.specs.declared.refusal.Refusal.{Refusal}
 
@@ -50,15 +52,15 @@ checks s x rest =
     ∷ (x.pages == 0, invalid)
     ∷ rest
 
-pub taken : (s : State) (x : Transfer) → first_failure (memory_retrieve s x).guards ≡ None → Taken s x
+pub taken : (s : State) (x : Transfer) → first_failure (receiver_retrieve s x).guards ≡ None → Taken s x
 taken s x none = read (retrieve_read s x.total) refl none
   where
     full : Bool
     full = is_full (buffers_in s.buffers s.runner)
 
     naming : (d : RetrieveDesc) (o : Option Transaction) → retrieve_read s x.total ≡ Some d → transaction_of s d.handle ≡ o
-        → first_failure (checks s x (holding_guards (ownership_of s) full s.runner d o)) ≡ None → Taken s x
-    naming d None is there passed = absurd (false≢true (guard-passes (checks s x (holding_guards (ownership_of s) full s.runner d None)) 5 (sym passed)))
+        → first_failure (checks s x (holding_guards s.ffa (ownership_of s) full s.runner (named_read s x.total) d o)) ≡ None → Taken s x
+    naming d None is there passed = absurd (false≢true (guard-passes (checks s x (holding_guards s.ffa (ownership_of s) full s.runner (named_read s x.total) d None)) 5 (sym passed)))
     naming d (Some t) is there passed =
         record {
           asked = d;
@@ -67,14 +69,14 @@ taken s x none = read (retrieve_read s x.total) refl none
           is =
               record {
                 there = there;
-                receiver = guard-passes (checks s x (holding_guards (ownership_of s) full s.runner d (Some t))) 5 (sym passed);
-                unheld = guard-passes (checks s x (holding_guards (ownership_of s) full s.runner d (Some t))) 9 (sym passed);
-                within = guard-passes (checks s x (holding_guards (ownership_of s) full s.runner d (Some t))) 10 (sym passed);
+                receiver = guard-passes (checks s x (holding_guards s.ffa (ownership_of s) full s.runner (named_read s x.total) d (Some t))) 5 (sym passed);
+                unheld = guard-passes (checks s x (holding_guards s.ffa (ownership_of s) full s.runner (named_read s x.total) d (Some t))) 10 (sym passed);
+                within = guard-passes (checks s x (holding_guards s.ffa (ownership_of s) full s.runner (named_read s x.total) d (Some t))) 11 (sym passed);
               };
         }
 
-    read : (o : Option RetrieveDesc) → retrieve_read s x.total ≡ o → first_failure (checks s x (asking_guards (scene_of s) s.runner o)) ≡ None → Taken s x
-    read None is passed = absurd (false≢true (guard-passes (checks s x (asking_guards (scene_of s) s.runner None)) 5 (sym passed)))
+    read : (o : Option RetrieveDesc) → retrieve_read s x.total ≡ o → first_failure (checks s x (asking_guards s.ffa (scene_of s) s.runner (named_read s x.total) o)) ≡ None → Taken s x
+    read None is passed = absurd (false≢true (guard-passes (checks s x (asking_guards s.ffa (scene_of s) s.runner (named_read s x.total) None)) 5 (sym passed)))
     read (Some d) is passed = naming d (transaction_of s d.handle) is refl passed
 
 module _ (s : State) (x : Transfer) (its : Taken s x) where
@@ -101,7 +103,7 @@ module _ (s : State) (x : Transfer) (its : Taken s x) where
   abbrev pub response : List ℕ
   response = response_bytes (version_of s s.runner) (response_to h t s.runner right)
 
-  pub state-taken : (memory_retrieve s x).state ≡ filled before s.runner response
+  pub state-taken : (receiver_retrieve s x).state ≡ filled before s.runner response
   state-taken = ap (retrieved s) its.read ∙ ap (retrieved_from s its.asked) its.is.there
 
   module _ (steady : IsSteady s) where
@@ -175,6 +177,9 @@ module _ (s : State) (x : Transfer) (its : Taken s x) where
         of _ = refl
 
 pub steady-retrieve : (s : State) → IsSteady s → (x : Transfer) → first_failure (memory_retrieve s x).guards ≡ None → IsSteady (memory_retrieve s x).state
-steady-retrieve s steady x none =
+steady-retrieve s steady x =
+    retrieve-kept IsSteady s x
+    (λ none.
     let its = taken s x none in
-    subst IsSteady (sym (state-taken s x its)) (steady-filled (before s x its) (steady-before s x its steady) s.runner (response s x its))
+    subst IsSteady (sym (state-taken s x its)) (steady-filled (before s x its) (steady-before s x its steady) s.runner (response s x its)))
+    steady (λ bytes. steady-filled s steady s.runner bytes)

@@ -129,7 +129,7 @@ module _ (e : ℕ) (s : State) (hides : ℕ → Bool) where
       told-b (MemLend x) = sends-b Lend x.total
       told-b (MemShare x) = sends-b Share x.total
       told-b (MemRetrieve x) =
-          ap (all_readably e s) (ap (λ tx. takes e b (retrieve_of s.runner (in_version (version_of s s.runner) (take x.total tx)))) tx-b ∙ taken-b (retrieve_read s x.total))
+          ap (all_readably e s) (ap (λ tx. takes e b (retrieve_of s.ffa s.runner (in_version (version_of s s.runner) (take x.total tx)))) tx-b ∙ taken-b (retrieve_read s x.total))
       told-b MemRelinquish = ap (λ tx. all_readably e s (releases e s (relinquish_of tx))) tx-b
       told-b MsgSend2 = ap (λ tx. all_readably e s (delivers e s tx)) tx-b
       told-b call = refl

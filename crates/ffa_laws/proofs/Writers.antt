@@ -27,7 +27,7 @@ use Rattle.ffa_model.specs.Access.{access, handle_at, held_by, names, right_by, 
 use Rattle.ffa_model.specs.Buffers.{filled, filled_pages, is_usable}
 use Rattle.ffa_model.specs.Calls.{first_failure}
 use Rattle.ffa_model.specs.Memory.{access_at, fault_of, fetch_fault, number_at, page_bytes, read_fault, size_of, store, store_fault, stored, zeroed_if, zeroed_page}
-use Rattle.ffa_model.specs.MemoryRetrieve.{donated_page, memory_retrieve}
+use Rattle.ffa_model.specs.MemoryRetrieve.{donated_page, receiver_retrieve}
 use Rattle.ffa_model.specs.MemoryReturn.{is_zeroable, memory_reclaim, memory_relinquish, named_ranges, reclaim_guards, relinquish_guards, relinquish_read, relinquished, relinquished_from}
 use Rattle.ffa_model.specs.MemorySend.{memory_send, memory_sent, send_guards, send_read}
 use Rattle.ffa_model.specs.Messages.{header_in, message_in, msg_send2, tx_bytes}
@@ -46,6 +46,7 @@ use Rattle.ffa_laws.specs.Writers.{OnlyWriters, is_reclaim, is_reclaimed}
 use Rattle.ffa_laws.proofs.Form.{accessed-kept, served-kept, waited-kept}
 use Rattle.ffa_laws.proofs.Given.{page-given}
 use Rattle.ffa_laws.proofs.SendLaws.{IsOffer, free, no-offer, offer, offered-owner}
+use Rattle.ffa_laws.proofs.ReadBacks.{retrieve-kept}
 use Rattle.ffa_laws.proofs.SoundSteady.{sound-steady}
 use Rattle.ffa_laws.proofs.Taken as retrieve
 use Rattle.ffa_laws.proofs.Taken.{Taken, state-taken, taken}
@@ -152,7 +153,7 @@ module _ (s : State) (sound : IsSoundState s) (p : ℕ) (no_right : may_store (a
           ∙ ap (λ o. may_store (right_of s.runner (page_at s p) (option_and_then (transaction_of s) o))) (sym (free s steady kind r good p named))
           ∙ no_right))
 
-  retrieve-elsewhere : (x : Transfer) → Taken s x → bytes_in (memory_retrieve s x).state.pages p ≡ bytes_in s.pages p
+  retrieve-elsewhere : (x : Transfer) → Taken s x → bytes_in (receiver_retrieve s x).state.pages p ≡ bytes_in s.pages p
   retrieve-elsewhere x its =
       ap (λ (t : State). bytes_in t.pages p) (state-taken s x its)
       ∙ by-runner (retrieve.before s x its).pages (retrieve.response s x its)
@@ -226,16 +227,17 @@ module _ (s : State) (sound : IsSoundState s) (p : ℕ) (no_right : may_store (a
   only-service : (call : calls.Call) → (is_send2 call && fills_rx_page s (header_in (tx_bytes s s.runner)).receiver p) ≡ false → first_failure (service s call).guards ≡ None
       → (is_reclaim call && may_store (access (service s call).state s.runner p)) ≡ false → page_bytes (service s call).state p ≡ page_bytes s p
   only-service (PartitionInfoGet uuid flags) not_filled none later =
-      elim (is_count_alone flags) as (λ b. page_bytes (cond b s (filled s s.runner (info_bytes (version_of s s.runner) s.parties (uuid_bytes uuid)))) p ≡ page_bytes s p) [
+      elim (is_count_alone flags) as (λ b. page_bytes (cond b s (filled s s.runner (info_bytes s.ffa (version_of s s.runner) s.parties (uuid_bytes uuid)))) p ≡ page_bytes s p) [
         | true ↦ refl
-        | false ↦ by-runner s.pages (info_bytes (version_of s s.runner) s.parties (uuid_bytes uuid))
+        | false ↦ by-runner s.pages (info_bytes s.ffa (version_of s s.runner) s.parties (uuid_bytes uuid))
       ]
   only-service (Version word) not_filled none later = version-leaves (λ t. page_bytes t p ≡ page_bytes s p) s.ffa s word refl (λ version. refl)
   only-service (MsgWait flags) not_filled none later = waited-kept (λ t. page_bytes t p ≡ page_bytes s p) s flags refl refl
   only-service (MemDonate x) not_filled none later = send-elsewhere Donate x none
   only-service (MemLend x) not_filled none later = send-elsewhere Lend x none
   only-service (MemShare x) not_filled none later = send-elsewhere Share x none
-  only-service (MemRetrieve x) not_filled none later = retrieve-elsewhere x (taken s x none)
+  only-service (MemRetrieve x) not_filled none later =
+      retrieve-kept (λ t. page_bytes t p ≡ page_bytes s p) s x (λ passed. retrieve-elsewhere x (taken s x passed)) refl (by-runner s.pages) none
   only-service MemRelinquish not_filled none later = relinquish-elsewhere none
   only-service (MemReclaim handle flags) not_filled none later = reclaim-elsewhere handle.0 flags none later
   only-service MsgSend2 not_filled none later = delivered-elsewhere none not_filled

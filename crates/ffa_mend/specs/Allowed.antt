@@ -149,11 +149,11 @@ told_receivers buffers e transfer descriptor =
 
 -- of a retrieve and a relinquish
 abbrev pub allowed_asked : Flaw → Option Allowed
-allowed_asked (Retrieve AskedAttributes) = Some (either 0 normal_memory)
-allowed_asked (Retrieve AccessCount) = Some (one 1)
-allowed_asked (Retrieve AskedAccessFlags) = Some (one 0)
-allowed_asked (Retrieve CompositeTold) = Some (one 0)
-allowed_asked (Retrieve AskedAccessReserved) = Some (one 0)
+allowed_asked (Retrieve i AskedAttributes) = Some (either 0 normal_memory)
+allowed_asked (Retrieve i AccessCount) = Some (one 1)
+allowed_asked (Retrieve i AskedAccessFlags) = Some (one 0)
+allowed_asked (Retrieve i CompositeTold) = Some (one 0)
+allowed_asked (Retrieve i AskedAccessReserved) = Some (one 0)
 allowed_asked (Relinquish RelinquishFlags) = Some (between 0 1)
 allowed_asked (Relinquish EndpointCount) = Some (one 1)
 allowed_asked flaw = None

@@ -12,6 +12,7 @@ use Rattle.ffa_model.specs.declared.endpoint.Region.{Region}
 use Rattle.ffa_model.specs.declared.flaw.Flaw.{Flaw}
 use Rattle.ffa_model.specs.declared.flaw.Flaw.TheVariants.{Header}
 use Rattle.ffa_model.specs.declared.flaw.HeaderFlaw.TheVariants.{AccessSize}
+use Rattle.ffa_model.specs.declared.manifest.Ffa.{Ffa}
 use Rattle.ffa_model.specs.declared.operation.FaultKind.{FaultKind}
 use Rattle.ffa_model.specs.declared.operation.FaultKind.TheVariants.{Permission}
 use Rattle.ffa_model.specs.declared.operation.Op.{Op}
@@ -32,7 +33,8 @@ use Rattle.ffa_model.specs.Access.{Ownership, held_by, is_receiver, ownership_of
 use Rattle.ffa_model.specs.Bits.{word_of_two}
 use Rattle.ffa_model.specs.Buffers.{room_of}
 use Rattle.ffa_model.specs.Calls.{first_refusal}
-use Rattle.ffa_model.specs.DescriptorPlaces.{Versioned}
+use Rattle.ffa_model.specs.DescriptorPlaces.{Versioned, handle_field}
+use Rattle.ffa_model.specs.HypervisorRetrieve.{asks_back}
 use Rattle.ffa_model.specs.Lists.{is_in_run, listed}
 use Rattle.ffa_model.specs.Memory.{access_at}
 use Rattle.ffa_model.specs.MemoryRetrieve.{right_for}
@@ -105,12 +107,17 @@ mend_retrieve ram e d RightTooMuch t =
 mend_retrieve ram e d refusal t = None
 
 -- of the descriptor that stands whole in TX of e
-abbrev pub mend_asked : List (Option Buffers) → Ownership → (HandleNumber → Option Transaction) → Identifier → Transfer
+abbrev pub mend_asked : Ffa → List (Option Buffers) → Ownership → (HandleNumber → Option Transaction) → Identifier → Transfer
     → Versioned → Refusal → Option Mend
-mend_asked buffers ram named e transfer bytes refusal =
+mend_asked ffa buffers ram named e transfer bytes refusal =
     if is_none (first_refusal (transfer_guards buffers e transfer))
-    then option_and_then (λ d. option_and_then (mend_retrieve ram e d refusal) (named d.handle)) (retrieve_of e bytes)
+    then option_and_then (λ d. option_and_then (mend_retrieve ram e d refusal) (named d.handle)) (retrieve_of ffa e bytes)
     else None
+
+-- of a hypervisor's retrieve
+abbrev pub mend_asked_back : (HandleNumber → Option Transaction) → Versioned → Refusal → Option Mend
+mend_asked_back named bytes NotTheSenders = mend_sent (named (handle_field bytes))
+mend_asked_back named bytes refusal = None
 
 -- OFFERS
 -- of a range that doesn't lie in RAM the first page that doesn't: its own first one, or, where that does, the one behind RAM
@@ -209,7 +216,8 @@ mend_offered_by s kind transfer refusal =
 
 abbrev pub mend_retrieved : State → Transfer → Refusal → Option Mend
 mend_retrieved s transfer refusal =
-    mend_asked s.buffers (ownership_of s) (transaction_of s) s.runner transfer (descriptor_in s transfer.total) refusal
+    if asks_back s transfer then mend_asked_back (transaction_of s) (descriptor_in s transfer.total) refusal
+    else mend_asked s.ffa s.buffers (ownership_of s) (transaction_of s) s.runner transfer (descriptor_in s transfer.total) refusal
 
 abbrev pub mend_relinquished : State → Refusal → Option Mend
 mend_relinquished s refusal =

@@ -14,7 +14,7 @@ use Rattle.ffa_model.specs.Manifest.{is_nil}
 use Rattle.ffa_model.specs.MemoryReturn.{memory_reclaim, reclaim_guards}
 use Rattle.ffa_model.specs.Messages.{header_in, msg_send2, send2_guards}
 use Rattle.ffa_model.specs.Notifications.{bind_guards, bitmap_create, bitmap_destroy, create_guards, destroy_guards, get_guards, notification_bind, notification_get, notification_set, notification_unbind, set_guards, unbind_guards}
-use Rattle.ffa_model.specs.Setup.{info_guards, is_any, is_count_alone, selected}
+use Rattle.ffa_model.specs.Setup.{info_guards, is_any, is_count_alone, needs_buffers, selected}
 use Rattle.ffa_model.specs.declared.endpoint.Version.{Version}
 use Rattle.ffa_model.specs.State.{State, transaction_of, version_of}
 use Rattle.ffa_rxtx.specs.Parts.{ownership_in}
@@ -50,11 +50,11 @@ module _ (x : Parts) (machine : IsManager x) (e : ℕ) (at : e ≡ x.kept.chain.
       ∙ ap (λ ram. first_refusal (map_guards x.kept.chain.runner (buffers_in x.kept.buffers x.kept.chain.runner) ram tx rx pages)) (ownership-is x machine)
 
   pub info-checked : (uuid : List ℕ) (flags : ℕ)
-      → decided (is_nil uuid || is_any (selected (map party_of x.manifest.endpoints.items) uuid)) (is_count_alone flags) (is_some (buffers_in x.kept.buffers e)) (is_full (buffers_in x.kept.buffers e))
+      → decided (needs_buffers x.manifest.ffa) (is_nil uuid || is_any (selected (map party_of x.manifest.endpoints.items) uuid)) (is_count_alone flags) (is_some (buffers_in x.kept.buffers e)) (is_full (buffers_in x.kept.buffers e))
       ≡ first_refusal (info_guards s uuid flags)
   unfolding first
   info-checked uuid flags =
-      λ i. decided (is_nil uuid || is_any (selected (map party_of x.manifest.endpoints.items) uuid)) (is_count_alone flags)
+      λ i. decided (needs_buffers x.manifest.ffa) (is_nil uuid || is_any (selected (map party_of x.manifest.endpoints.items) uuid)) (is_count_alone flags)
       (is_some (buffers_in x.kept.buffers (at i))) (is_full (buffers_in x.kept.buffers (at i)))
 
   pub send-checked : (version : Version) → version ≡ version_of s s.runner → first_refusal (send2_guards (map party_of x.manifest.endpoints.items) x.kept.buffers version e (header_in (sent_in x.ram x.kept.buffers e))) ≡ first_refusal (msg_send2 s).guards

@@ -1,14 +1,15 @@
 -- SPDX-License-Identifier: MIT OR Apache-2.0
 -- What is told of a check that fails: the code sees of the machine's parts what the definition sees of its state.
-use Rattle.std.proofs.Common.{◌≡◌, ◌∙◌, ℕ, None, length, take, ap}
+use Rattle.std.proofs.Common.{◌≡◌, ◌∙◌, ℕ, Bool, true, false, cond, Option, None, length, take, ap, sym}
 use Rattle.std.specs.Option.{option_map}
 use Rattle.std.specs.FinMap as finite
 use Rattle.ffa_memshare.specs.declared.descriptor_call.DescriptorCall.{DescriptorCall}
 use Rattle.ffa_memshare.specs.Found.{sent_told}
 use Rattle.ffa_memshare.specs.Scenes.{descriptor_in, scene_in}
 use Rattle.ffa_memshare.specs.Stored.{map_in, open_in}
+use Rattle.ffa_mend.specs.declared.explained.Explained.{Explained}
 use Rattle.ffa_mend.specs.Explained.{explained}
-use Rattle.ffa_mend.specs.Mend.{mend_asked, mend_bits, mend_given_back, mend_map, mend_message, mend_noticed, mend_pending, mend_return}
+use Rattle.ffa_mend.specs.Mend.{mend_asked, mend_asked_back, mend_bits, mend_given_back, mend_map, mend_message, mend_noticed, mend_pending, mend_return}
 use Rattle.ffa_messages.specs.Parts.{sent_in}
 use Rattle.ffa_model.specs.declared.call.Call.{Call}
 use Rattle.ffa_model.specs.declared.call.Call.TheVariants.{MemRelinquish, MemRetrieve}
@@ -16,18 +17,19 @@ use Rattle.ffa_model.specs.declared.refusal.Refusal.{Refusal}
 use Rattle.ffa_model.specs.declared.rights.Kind.{Kind}
 use Rattle.ffa_model.specs.Access.{ownership_of}
 use Rattle.ffa_model.specs.About.{failing_map, failing_reclaim}
-use Rattle.ffa_model.specs.AboutContents.{about_bits, about_message, about_relinquish, about_retrieve, where_mapped, where_whole}
-use Rattle.ffa_model.specs.Buffers.{buffers_in}
+use Rattle.ffa_model.specs.AboutContents.{about_asked_back, about_bits, about_message, about_relinquish, about_retrieve, where_mapped, where_whole}
+use Rattle.ffa_model.specs.Buffers.{buffers_in, is_full}
 use Rattle.ffa_model.specs.Calls.{first_refusal}
 use Rattle.ffa_model.specs.DescriptorPlaces.{in_version}
 use Rattle.ffa_model.specs.First.{first}
-use Rattle.ffa_model.specs.MemoryRetrieve.{memory_retrieve, retrieve_guards}
+use Rattle.ffa_model.specs.HypervisorRetrieve.{asks_back, back_guards, handle_alone, memory_retrieve, retrieve_by}
+use Rattle.ffa_model.specs.MemoryRetrieve.{retrieve_guards}
 use Rattle.ffa_model.specs.MemoryReturn.{memory_relinquish, relinquish_guards}
 use Rattle.ffa_model.specs.MemorySend as sends
 use Rattle.ffa_model.specs.Messages.{header_in, tx_bytes}
 use Rattle.ffa_model.specs.Notifications.{notifications_of}
 use Rattle.ffa_model.specs.RelinquishDescriptor.{relinquish_of}
-use Rattle.ffa_model.specs.RetrieveDescriptor.{retrieve_of}
+use Rattle.ffa_model.specs.RetrieveDescriptor.{endpoints_named, retrieve_of}
 use Rattle.ffa_model.specs.SendDescriptor.{send_of}
 use Rattle.ffa_model.specs.State.{State, buffers_of, transaction_of, version_of}
 use Rattle.ffa_model.specs.Transactions.{open_of, scene_of}
@@ -79,21 +81,56 @@ module _ (x : Parts) (machine : IsManager x) where
       unfolding first
       whole = λ i. in_version (spoken i) (take call.transfer.total (sent-is x machine e at i))
 
-      pub retrieve-told : option_map (λ (refusal : Refusal). (
+      -- what is told of a retrieve, by who asks
+      abbrev told-by : Bool → Option (Refusal × Explained)
+      told-by b = option_map (λ (refusal : Refusal). (
         refusal,
-        explained (where_whole x.kept.buffers e call.transfer (about_retrieve e (descriptor_in x.ram x.kept.buffers e call) refusal)) None
-            (mend_asked x.kept.buffers (ownership_in x.kept.pages x.kept.layout.base.0) (finite.get (map_in x.kept.pool.slots)) e call.transfer (descriptor_in x.ram x.kept.buffers e call) refusal),
-      ))
-          (first_refusal (retrieve_guards (scene_in (memory_parts_in x)) e call.transfer (retrieve_of e (descriptor_in x.ram x.kept.buffers e call))))
+        record {
+          about = cond b (about_asked_back (sends.descriptor_in s call.transfer.total) refusal)
+              (where_whole s.buffers s.runner call.transfer (about_retrieve s.ffa s.runner (sends.descriptor_in s call.transfer.total) refusal));
+          page = None;
+          mend = cond b (mend_asked_back (transaction_of s) (sends.descriptor_in s call.transfer.total) refusal)
+              (mend_asked s.ffa s.buffers (ownership_of s) (transaction_of s) s.runner call.transfer (sends.descriptor_in s call.transfer.total) refusal);
+          receivers = None;
+        },
+      )) (first_refusal (retrieve_by b s call.transfer).guards)
+
+      -- of who asks for what it sent
+      pub asked-back-told : call.ffa ≡ s.ffa → asks_back s call.transfer ≡ true
+          → option_map (λ (refusal : Refusal). (
+            refusal,
+            explained (about_asked_back (descriptor_in x.ram x.kept.buffers e call) refusal) None
+                (mend_asked_back (finite.get (map_in x.kept.pool.slots)) (descriptor_in x.ram x.kept.buffers e call) refusal),
+          ))
+          (first_refusal (back_guards (is_full (buffers_in x.kept.buffers e)) e (finite.get (map_in x.kept.pool.slots)) (handle_alone (descriptor_in x.ram x.kept.buffers e call))))
           ≡ with_told s (MemRetrieve call.transfer) (first_refusal (memory_retrieve s call.transfer).guards)
       unfolding first
-      retrieve-told =
-          λ i. option_map (λ (refusal : Refusal). (
+      asked-back-told alike back =
+          (λ i. option_map (λ (refusal : Refusal). (
             refusal,
-            explained (where_whole x.kept.buffers (at i) call.transfer (about_retrieve (at i) (whole i) refusal)) None
-                (mend_asked x.kept.buffers (scene-is x machine i).ram (transaction_of s) (at i) call.transfer (whole i) refusal),
+            explained (about_asked_back (whole i) refusal) None (mend_asked_back (transaction_of s) (whole i) refusal),
           ))
-          (first_refusal (retrieve_guards (scene-is x machine i) (at i) call.transfer (retrieve_of (at i) (whole i))))
+          (first_refusal (back_guards (is_full (buffers_in x.kept.buffers (at i))) (at i) (transaction_of s) (handle_alone (whole i)))))
+          ∙ (λ i. told-by (sym back i))
+
+      -- of a receiver
+      pub retrieve-told : call.ffa ≡ s.ffa → asks_back s call.transfer ≡ false
+          → option_map (λ (refusal : Refusal). (
+            refusal,
+            explained (where_whole x.kept.buffers e call.transfer (about_retrieve call.ffa e (descriptor_in x.ram x.kept.buffers e call) refusal)) None
+                (mend_asked call.ffa x.kept.buffers (ownership_in x.kept.pages x.kept.layout.base.0) (finite.get (map_in x.kept.pool.slots)) e call.transfer (descriptor_in x.ram x.kept.buffers e call) refusal),
+          ))
+          (first_refusal (retrieve_guards call.ffa (scene_in (memory_parts_in x)) e call.transfer (endpoints_named (descriptor_in x.ram x.kept.buffers e call)) (retrieve_of call.ffa e (descriptor_in x.ram x.kept.buffers e call))))
+          ≡ with_told s (MemRetrieve call.transfer) (first_refusal (memory_retrieve s call.transfer).guards)
+      unfolding first
+      retrieve-told alike own =
+          (λ i. option_map (λ (refusal : Refusal). (
+            refusal,
+            explained (where_whole x.kept.buffers (at i) call.transfer (about_retrieve (alike i) (at i) (whole i) refusal)) None
+                (mend_asked (alike i) x.kept.buffers (scene-is x machine i).ram (transaction_of s) (at i) call.transfer (whole i) refusal),
+          ))
+          (first_refusal (retrieve_guards (alike i) (scene-is x machine i) (at i) call.transfer (endpoints_named (whole i)) (retrieve_of (alike i) (at i) (whole i)))))
+          ∙ (λ i. told-by (sym own i))
 
       pub sent-told : (kind : Kind) → call.ffa ≡ x.manifest.ffa
           → option_map (sent_told (scene_in (memory_parts_in x)) e call.ffa kind call.transfer (descriptor_in x.ram x.kept.buffers e call))

@@ -6,7 +6,7 @@ ghost use Rattle.std.specs.Option.{option_map};
 ghost use Rattle.ffa_model.specs.AboutContents.{about_bits};
 ghost use Rattle.ffa_model.specs.Buffers.{rxtx_map};
 ghost use Rattle.ffa_model.specs.Calls.{first_refusal};
-ghost use Rattle.ffa_model.specs.MemoryRetrieve.{memory_retrieve};
+ghost use Rattle.ffa_model.specs.HypervisorRetrieve.{memory_retrieve};
 ghost use Rattle.ffa_model.specs.MemoryReturn.{memory_reclaim, memory_relinquish};
 ghost use Rattle.ffa_model.specs.MemorySend.{descriptor_in, is_inside, memory_send};
 ghost use Rattle.ffa_model.specs.Messages.{msg_send2};
@@ -81,19 +81,20 @@ impl<M: PhysMem + Drop, T: Translations + Drop, S: Store> Reasons<'_, M, T, S> {
     pub(crate) fn why_retrieve(&self, transfer: Transfer) -> Option<(Refusal, Explained)>
         ensures { result ≡ with_told self.now (Call.MemRetrieve transfer) (first_refusal (memory_retrieve self.now transfer).guards) }
     {
-        let ffa = self.parts.manifest.ffa;
-        let version = self.version();
         let call = DescriptorCall {
             transfer,
-            ffa,
-            version,
+            ffa: self.ffa(),
+            version: self.version(),
         };
         let parts = &self.parts;
         let runner = parts.chain.runner();
         let (layout, pages) = (parts.layout, parts.pages);
-        parts
-            .pool
-            .why_retrieve(parts.ram, layout, pages, parts.buffers, runner, &call)
+        let (ram, buffers) = (parts.ram, parts.buffers);
+        let pool = parts.pool;
+        if call.asks_back(ram, buffers, runner) {
+            return pool.why_read_back(ram, layout, pages, buffers, runner, &call);
+        }
+        pool.why_retrieve(ram, layout, pages, buffers, runner, &call)
     }
 
     // Of FFA_MEM_RELINQUISH.

@@ -9,14 +9,14 @@ ghost use Rattle.ffa_model.specs.MemoryReturn.{memory_reclaim};
 ghost use Rattle.ffa_model.specs.Messages.{msg_send2};
 ghost use Rattle.ffa_model.specs.Notifications.{bitmap_create, bitmap_destroy, notification_bind, notification_get, notification_set, notification_unbind};
 ghost use Rattle.ffa_model.specs.RunStates.{direct_request, direct_response, run_partition, schedule_of, wait_guards, yield_now};
-ghost use Rattle.ffa_model.specs.Setup.{info_guards, is_count_alone, uuid_bytes};
+ghost use Rattle.ffa_model.specs.Setup.{info_guards, is_count_alone, needs_buffers, uuid_bytes};
 ghost use Rattle.ffa_model.specs.Step.{service};
 ghost use Rattle.ffa_reasons.specs.Explanation.{with_told};
 
 use crate::reasons::Reasons;
 use ffa_mend::Explained;
 use ffa_messages::{check_direct_req, check_direct_resp, check_send2};
-use ffa_model::{Call, DirectMessage, EndpointId, Handle, Kind, NotificationBits, Refusal};
+use ffa_model::{Call, DirectMessage, EndpointId, Ffa, Handle, Kind, NotificationBits, Refusal};
 use ffa_physmem::PhysMem;
 use ffa_spmc::Store;
 use ffa_tlb::Translations;
@@ -100,6 +100,7 @@ impl<M: PhysMem + Drop, T: Translations + Drop, S: Store> Reasons<'_, M, T, S> {
         let runner = self.parts.chain.runner();
         let is_recognized = ffa_setup::is_recognized(self.parts.manifest, uuid);
         info_refusal(
+            self.ffa(),
             is_recognized,
             is_count_alone(flags),
             buffers.has(runner),
@@ -235,13 +236,15 @@ fn bare(refusal: Option<Refusal>) -> Option<(Refusal, Explained)>
 // The first check of FFA_PARTITION_INFO_GET that fails, by whether its UUID is recognized, the count alone is asked for, and
 // the caller has buffers, with a full RX.
 fn info_refusal(
+    ffa: Ffa,
     is_recognized: bool,
     is_count_alone: bool,
     has_buffers: bool,
     is_full: bool,
 ) -> Option<Refusal>
     ensures { result ≡ first_refusal ((is_recognized, Refusal.UuidUnknown)
-        ∷ (is_count_alone || has_buffers, Refusal.BuffersMissing)
+        ∷ (is_count_alone || has_buffers || needs_buffers ffa, Refusal.BuffersMissing)
+        ∷ (is_count_alone || has_buffers, Refusal.BuffersNeeded)
         ∷ (is_count_alone || not is_full, Refusal.RxFull) ∷ []) }
 {
     if !is_recognized {
@@ -249,7 +252,7 @@ fn info_refusal(
     } else if is_count_alone {
         None
     } else if !has_buffers {
-        Some(Refusal::BuffersMissing)
+        Some(ffa_setup::missing_buffers(ffa))
     } else if is_full {
         Some(Refusal::RxFull)
     } else {

@@ -299,10 +299,11 @@ fn allowed_asked(flaw: Flaw) -> Option<Allowed>
     ensures { result ≡ allowed_asked flaw }
 {
     match flaw {
-        Flaw::Retrieve(RetrieveFlaw::Attributes) => Some(steps(0, NORMAL_MEMORY, NORMAL_MEMORY)),
-        Flaw::Retrieve(RetrieveFlaw::AccessCount)
+        Flaw::Retrieve(_, RetrieveFlaw::Attributes) => Some(steps(0, NORMAL_MEMORY, NORMAL_MEMORY)),
+        Flaw::Retrieve(_, RetrieveFlaw::AccessCount)
         | Flaw::Relinquish(RelinquishFlaw::EndpointCount) => Some(one(1)),
         Flaw::Retrieve(
+            _,
             RetrieveFlaw::AccessFlags | RetrieveFlaw::CompositeTold | RetrieveFlaw::AccessReserved,
         ) => Some(one(0)),
         Flaw::Relinquish(RelinquishFlaw::Flags) => Some(between(0, 1)),

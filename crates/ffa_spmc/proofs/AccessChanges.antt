@@ -47,9 +47,9 @@ use Rattle.ffa_spmc.proofs.Held.{size_is}
 module _ (s : State) (e p : ℕ) where
   left-service : (call : Call) → is_memory_call call ≡ false → access (service s call).state e p ≡ access s e p
   left-service (PartitionInfoGet uuid flags) beside =
-      elim (is_count_alone flags) as (λ b. access (cond b s (filled s s.runner (info_bytes (version_of s s.runner) s.parties (uuid_bytes uuid)))) e p ≡ access s e p) [
+      elim (is_count_alone flags) as (λ b. access (cond b s (filled s s.runner (info_bytes s.ffa (version_of s s.runner) s.parties (uuid_bytes uuid)))) e p ≡ access s e p) [
         | true ↦ refl
-        | false ↦ access-filled s s.runner (info_bytes (version_of s s.runner) s.parties (uuid_bytes uuid)) e p
+        | false ↦ access-filled s s.runner (info_bytes s.ffa (version_of s s.runner) s.parties (uuid_bytes uuid)) e p
       ]
   left-service (Version word) beside = version-leaves (λ t. access t e p ≡ access s e p) s.ffa s word refl (λ version. refl)
   left-service (MsgWait flags) beside = waited-kept (λ t. access t e p ≡ access s e p) s flags refl refl

@@ -35,6 +35,7 @@ pub mod Reclaims
 pub mod Relinquishes
 pub mod Donations
 pub mod Retrieves
+pub mod ReadBacks
 pub mod Offers
 pub mod Notified
 pub mod HeldWalks

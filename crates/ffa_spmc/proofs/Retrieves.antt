@@ -22,11 +22,12 @@ use Rattle.ffa_model.specs.declared.rights.Rights.{Rights}
 use Rattle.ffa_model.specs.Access.{access, held_by, is_receiver, names, ownership_of}
 use Rattle.ffa_model.specs.Buffers.{buffers_in, buffers_with_rx, filled, is_full}
 use Rattle.ffa_model.specs.Calls.{first_failure, replied, served}
+use Rattle.ffa_model.specs.HypervisorRetrieve.{asks_back, retrieve_by}
 use Rattle.ffa_model.specs.Identifiers.{identifier, place}
-use Rattle.ffa_model.specs.MemoryRetrieve.{holding_guards, memory_retrieve, response_length, response_to, retrieve_guards, retrieve_read, retrieved, retrieved_from, retrieved_right, right_for, with_retrieved}
+use Rattle.ffa_model.specs.MemoryRetrieve.{holding_guards, named_read, receiver_retrieve, response_length, response_to, retrieve_guards, retrieve_read, retrieved, retrieved_from, retrieved_right, right_for, with_retrieved}
 use Rattle.ffa_model.specs.Ram.{Ram}
 use Rattle.ffa_model.specs.ResponseBytes.{response_bytes, response_size}
-use Rattle.ffa_model.specs.RetrieveDescriptor.{retrieve_of}
+use Rattle.ffa_model.specs.RetrieveDescriptor.{endpoints_named, retrieve_of}
 use Rattle.ffa_model.specs.Rights.{is_at_most, is_donate}
 use Rattle.ffa_model.specs.SoundState.{IsKnown, IsSoundState}
 use Rattle.ffa_model.specs.State.{State, Transaction, Buffers, is_known, transaction_of, version_of}
@@ -75,7 +76,8 @@ scene-is x machine = λ i. record {
 }
 
 -- the code's runner is that of the run states; and it has retrieved what its TX describes, or was refused
-module _ (x : Parts) (machine : IsManager x) (e : EndpointId) (at : e.0 ≡ x.kept.chain.runner) (call : DescriptorCall) (spoken : call.version ≡ version_of (state_of x) (state_of x).runner)
+module _ (x : Parts) (machine : IsManager x) (e : EndpointId) (at : e.0 ≡ x.kept.chain.runner) (call : DescriptorCall) (alike : call.ffa ≡ (state_of x).ffa)
+    (spoken : call.version ≡ version_of (state_of x) (state_of x).runner) (own : asks_back (state_of x) call.transfer ≡ false)
     (ram : Ram) (pages : List (Option Entry)) (pool : Pooled) (buffers : List (Option Buffers)) where
   abbrev s : State
   s = state_of x
@@ -93,14 +95,17 @@ module _ (x : Parts) (machine : IsManager x) (e : EndpointId) (at : e.0 ≡ x.ke
   bytes = descriptor_in x.ram x.kept.buffers e.0 call
 
   abbrev guards : List (Bool × Refusal)
-  guards = (memory_retrieve s registers).guards
+  guards = (receiver_retrieve s registers).guards
 
   -- what the pool has done
   abbrev IsDone : Option Changed → Value → Type 0
-  IsDone news value = IsRetrieved (memory_parts_in x) (memory_parts_in after_retrieve) e bytes news value
+  IsDone news value = IsRetrieved call.ffa (memory_parts_in x) (memory_parts_in after_retrieve) e bytes news value
 
-  descriptor-is : retrieve_of e.0 bytes ≡ retrieve_read s total
-  descriptor-is = λ i. retrieve_of (at i) (in_version (spoken i) (take total (sent-is x machine e.0 at i)))
+  descriptor-is : retrieve_of call.ffa e.0 bytes ≡ retrieve_read s total
+  descriptor-is = λ i. retrieve_of (alike i) (at i) (in_version (spoken i) (take total (sent-is x machine e.0 at i)))
+
+  names-are : endpoints_named bytes ≡ named_read s total
+  names-are = λ i. endpoints_named (in_version (spoken i) (take total (sent-is x machine e.0 at i)))
 
   module _ (news : Option Changed) (value : Value) (none : None ≡ first_failure guards) (done : IsDone news value) (full : buffers ≡ buffers_with_rx x.kept.buffers e.0 true) where
     abbrev d : RetrieveDesc
@@ -123,19 +128,19 @@ module _ (x : Parts) (machine : IsManager x) (e : EndpointId) (at : e.0 ≡ x.ke
 
     -- the checks have passed
     abbrev checked : List (Bool × Refusal)
-    checked = transfer_guards s.buffers s.runner registers ++ (holding_guards (ownership_of s) (is_full (buffers_in s.buffers s.runner)) s.runner d (Some t))
+    checked = transfer_guards s.buffers s.runner registers ++ (holding_guards s.ffa (ownership_of s) (is_full (buffers_in s.buffers s.runner)) s.runner (named_read s total) d (Some t))
 
     passes : None ≡ first_failure checked
     passes =
         none
-        ∙ ap (λ o. first_failure (retrieve_guards (scene_of s) s.runner registers o)) read
-        ∙ ap (λ o. first_failure (transfer_guards s.buffers s.runner registers ++ (holding_guards (ownership_of s) (is_full (buffers_in s.buffers s.runner)) s.runner d o))) was
+        ∙ ap (λ o. first_failure (retrieve_guards s.ffa (scene_of s) s.runner registers (named_read s total) o)) read
+        ∙ ap (λ o. first_failure (transfer_guards s.buffers s.runner registers ++ (holding_guards s.ffa (ownership_of s) (is_full (buffers_in s.buffers s.runner)) s.runner (named_read s total) d o))) was
 
     receiver : is_receiver s.runner t ≡ true
     receiver = guard-passes checked 5 passes
 
     within : is_at_most right (ceiling (ownership_of s) t s.runner) ≡ true
-    within = ap (λ (r : Rights). is_at_most r (ceiling (ownership_of s) t s.runner)) right-is ∙ guard-passes checked 10 passes
+    within = ap (λ (r : Rights). is_at_most r (ceiling (ownership_of s) t s.runner)) right-is ∙ guard-passes checked 11 passes
 
     known : IsKnown s s.runner
     known = runner-known s machine.sound
@@ -235,7 +240,7 @@ module _ (x : Parts) (machine : IsManager x) (e : EndpointId) (at : e.0 ≡ x.ke
           owners = machine-taken.owners;
           open_transactions = open-taken;
           sound =
-              subst IsSoundState (passed-state s (memory_retrieve s registers) (sym none) ∙ sym state-retrieved)
+              subst IsSoundState ((λ i. (served s (retrieve_by (own i) s registers)).state) ∙ passed-state s (receiver_retrieve s registers) (sym none) ∙ sym state-retrieved)
               (call-sound s machine.sound (MemRetrieve registers));
         }
 
@@ -246,10 +251,10 @@ module _ (x : Parts) (machine : IsManager x) (e : EndpointId) (at : e.0 ≡ x.ke
         (unowned-moved x machine done.answer.granted (place e.0) t.ranges (λ p. Some right) false moves (open-entered x machine d.handle t was))
         (unowned-filled x machine e.0 (runner-there x machine e.0 at) done.answer.granted answer))
 
-    pub length-retrieved : value_reply value ≡ (memory_retrieve s registers).reply
+    pub length-retrieved : value_reply value ≡ (receiver_retrieve s registers).reply
     length-retrieved =
-        ap value_reply done.value ∙ ap Retrieved (done.answer.bytes ∙ ap (λ (v : Version). response_size v t.ranges) spoken
-        ∙ sym (ap (response_length s) read ∙ ap (λ o. option_map_or (λ (u : Transaction). response_size (version_of s s.runner) u.ranges) o 0) was))
+        ap value_reply done.value ∙ ap Retrieved (done.answer.bytes ∙ ap (λ (v : Version). response_size v 1 t.ranges) spoken
+        ∙ sym (ap (response_length s) read ∙ ap (λ o. option_map_or (λ (u : Transaction). response_size (version_of s s.runner) 1 u.ranges) o 0) was))
 
     -- of access
     offered : IsOffered x.manifest t
@@ -272,19 +277,19 @@ module _ (x : Parts) (machine : IsManager x) (e : EndpointId) (at : e.0 ≡ x.ke
         none-of (Some its) is = absurd (false≢true is)
 
         unheld : held_by t s.runner ≡ None
-        unheld = none-of (held_by t s.runner) (guard-passes checked 9 passes)
+        unheld = none-of (held_by t s.runner) (guard-passes checked 10 passes)
 
         other : t.sender ≡ s.runner → ⊥
         other same = false≢true (sym offered.other ∙ ap (λ (f : ℕ). is_receiver f t) same ∙ receiver)
 
   -- the clauses of the pool's call
   module _ (r : Result Value ErrorCode) (news : Option Changed)
-      (refusal : result_err r ≡ first_failure (retrieve_guards
-      (scene_in (memory_parts_in x)) e.0 registers (retrieve_of e.0 bytes)))
+      (refusal : result_err r ≡ first_failure (retrieve_guards call.ffa
+      (scene_in (memory_parts_in x)) e.0 registers (endpoints_named bytes) (retrieve_of call.ffa e.0 bytes)))
       (kept : OnErr r (pool ≡ x.kept.pool)) (kept_pages : OnErr r (pages ≡ x.kept.pages)) (kept_buffers : OnErr r (buffers ≡ x.kept.buffers)) (kept_ram : OnErr r (ram ≡ x.ram))
       (full : OnOk r (buffers ≡ buffers_with_rx x.kept.buffers e.0 true)) (done : IfOk r (IsDone news)) where
     refuses : result_err r ≡ first_failure guards
-    refuses = refusal ∙ (λ i. first_failure (retrieve_guards (scene-is x machine i) (at i) registers (descriptor-is i)))
+    refuses = refusal ∙ (λ i. first_failure (retrieve_guards (alike i) (scene-is x machine i) (at i) registers (names-are i) (descriptor-is i)))
 
     unchanged : OnErr r (after_retrieve ≡ x)
     unchanged = of r kept kept_pages kept_buffers kept_ram
@@ -301,17 +306,17 @@ module _ (x : Parts) (machine : IsManager x) (e : EndpointId) (at : e.0 ≡ x.ke
         of (Ok value) none fills facts = state-retrieved news value none facts fills
         of (Err code) fails fills facts = tt
 
-    told : IfOk r (λ value. value_reply value ≡ (memory_retrieve s registers).reply)
+    told : IfOk r (λ value. value_reply value ≡ (receiver_retrieve s registers).reply)
     told = of r refuses full done
       where
         of : (r : Result Value ErrorCode) → result_err r ≡ first_failure guards → OnOk r (buffers ≡ buffers_with_rx x.kept.buffers e.0 true) → IfOk r (IsDone news)
-            → IfOk r (λ value. value_reply value ≡ (memory_retrieve s registers).reply)
+            → IfOk r (λ value. value_reply value ≡ (receiver_retrieve s registers).reply)
         of (Ok value) none fills facts = length-retrieved news value none facts fills
         of (Err code) fails fills facts = tt
 
-    pub retrieve-served : replied (state_of after_retrieve) (value_or_error r) ≡ served s (memory_retrieve s registers)
+    pub retrieve-served : replied (state_of after_retrieve) (value_or_error r) ≡ served s (receiver_retrieve s registers)
     retrieve-served =
-        answered-by s (state_of after_retrieve) (memory_retrieve s registers) r value_reply refuses
+        answered-by s (state_of after_retrieve) (receiver_retrieve s registers) r value_reply refuses
         (refused-so r (λ is. ap state_of is) unchanged) state-done told
 
     pub retrieve-machine : IsManager after_retrieve

@@ -33,6 +33,7 @@ use Rattle.ffa_model.specs.Transactions.{closed, not_holding, open_of, with_open
 use Rattle.ffa_model.proofs.Accesses.{length-map_at}
 use Rattle.ffa_laws.proofs.Form.{accessed-kept, served-kept, waited-kept}
 use Rattle.ffa_laws.proofs.Kept.{place-step}
+use Rattle.ffa_laws.proofs.ReadBacks.{either-kept}
 use Rattle.ffa_stage2.specs.Tables.{IsAside}
 use Rattle.ffa_laws.proofs.Versions.{version-leaves}
 use Rattle.ffa_spmc.specs.Unowned.{IsNoTable}
@@ -85,9 +86,9 @@ relinquished-sizes s (Some d) = of (transaction_of s d.handle)
 
 service-sizes : (s : State) (call : calls.Call) → sizes (service s call).state ≡ sizes s
 service-sizes s (PartitionInfoGet uuid flags) =
-    elim (is_count_alone flags) as (λ b. sizes (cond b s (filled s s.runner (info_bytes (version_of s s.runner) s.parties (uuid_bytes uuid)))) ≡ sizes s) [
+    elim (is_count_alone flags) as (λ b. sizes (cond b s (filled s s.runner (info_bytes s.ffa (version_of s s.runner) s.parties (uuid_bytes uuid)))) ≡ sizes s) [
       | true ↦ refl
-      | false ↦ of-pages s _ (filled-size s.pages (info_bytes (version_of s s.runner) s.parties (uuid_bytes uuid)) (buffers_of s s.runner))
+      | false ↦ of-pages s _ (filled-size s.pages (info_bytes s.ffa (version_of s s.runner) s.parties (uuid_bytes uuid)) (buffers_of s s.runner))
     ]
 service-sizes s (Version word) = version-leaves (λ t. sizes t ≡ sizes s) s.ffa s word refl (λ version. refl)
 service-sizes s (MsgWait flags) = waited-kept (λ t. sizes t ≡ sizes s) s flags refl refl
@@ -96,7 +97,8 @@ service-sizes s MsgSend2 =
 service-sizes s (MemDonate x) = sent-sizes s Donate (send_read s Donate x.total)
 service-sizes s (MemLend x) = sent-sizes s Lend (send_read s Lend x.total)
 service-sizes s (MemShare x) = sent-sizes s Share (send_read s Share x.total)
-service-sizes s (MemRetrieve x) = retrieved-sizes s (retrieve_read s x.total)
+service-sizes s (MemRetrieve x) =
+    either-kept (λ t. sizes t ≡ sizes s) s x (retrieved-sizes s (retrieve_read s x.total)) refl (λ bytes. of-pages s _ (filled-size s.pages bytes (buffers_of s s.runner)))
 service-sizes s MemRelinquish = relinquished-sizes s (relinquish_read s)
 service-sizes s (MemReclaim handle flags) =
     let h : ℕ = handle.0 in

@@ -43,6 +43,7 @@ use Rattle.ffa_laws.proofs.ElsewhereRunLaws.{known-as}
 use Rattle.ffa_laws.proofs.Form.{served-kept}
 use Rattle.ffa_laws.proofs.Kept.{step-fixed}
 use Rattle.ffa_laws.proofs.OwnTx.{leaves_tx}
+use Rattle.ffa_laws.proofs.ReadBacks.{either-kept}
 use Rattle.ffa_laws.proofs.SoundOperations.{step-sound}
 use Rattle.ffa_laws.proofs.SoundSteady.{runner-known}
 use Rattle.ffa_laws.proofs.Writers.{usable-writes}
@@ -107,7 +108,7 @@ module _ (s : State) (e : ℕ) where
   tx-service (MemDonate x) reads = tx-sent Donate (send_read s Donate x.total)
   tx-service (MemLend x) reads = tx-sent Lend (send_read s Lend x.total)
   tx-service (MemShare x) reads = tx-sent Share (send_read s Share x.total)
-  tx-service (MemRetrieve x) reads = tx-retrieved (retrieve_read s x.total)
+  tx-service (MemRetrieve x) reads = either-kept IsKept s x (tx-retrieved (retrieve_read s x.total)) refl (λ bytes. tx-filled s.buffers s.runner true e)
   tx-service MemRelinquish reads = tx-relinquished (relinquish_read s)
   tx-service MsgSend2 reads = tx-filled s.buffers (header_in (tx_bytes s s.runner)).receiver true e
   tx-service call reads = absurd (false≢true reads)

@@ -192,9 +192,11 @@ impl<M: PhysMem + Drop, S: Store> Manager<M, S> {
 
     // FFA_FEATURES of the runner.
     fn features(&self, function: u32) -> Reply
-        ensures { result ≡ features_reply self.now.state.ffa (version_of self.now.state self.now.state.runner) function }
+        ensures { let runner = self.now.state.runner in
+            result ≡ features_reply self.now.state.ffa runner (version_of self.now.state runner) function }
     {
-        ffa_setup::features(function, self.kept.manifest.ffa, self.version())
+        let runner = self.kept.chain.runner();
+        ffa_setup::features(function, self.kept.manifest.ffa, runner, self.version())
     }
 
     // A call of the runner, in its registers, after which the cache holds nothing that the call has made untrue, and what it

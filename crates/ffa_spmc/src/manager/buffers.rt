@@ -76,7 +76,7 @@ impl<M: PhysMem + Drop, S: Store> Manager<M, S> {
             return Ok(());
         }
         if !self.kept.buffers.has(runner) {
-            return Err(Refusal::BuffersMissing);
+            return Err(ffa_setup::missing_buffers(self.kept.manifest.ffa));
         }
         if self.kept.buffers.is_full(runner) {
             return Err(Refusal::RxFull);

@@ -1,13 +1,15 @@
 // SPDX-License-Identifier: MIT OR Apache-2.0
 //! The calls on memory. Each stands alone, so that other calls have no room for it. The pool says in the news whose
 //! access to which pages changed, and the cache forgets what the news say.
-ghost use Rattle.std.specs.Prelude.{◌≡◌, true};
+ghost use Rattle.std.specs.Prelude.{◌≡◌, false, true};
 ghost use Rattle.std.specs.Option.{option_or};
-ghost use Rattle.ffa_model.specs.MemoryRetrieve.{memory_retrieve};
+ghost use Rattle.ffa_model.specs.HypervisorRetrieve.{asks_back, hypervisor_retrieve, memory_retrieve};
+ghost use Rattle.ffa_model.specs.MemoryRetrieve.{receiver_retrieve};
 ghost use Rattle.ffa_model.specs.MemoryReturn.{memory_reclaim, memory_relinquish};
 ghost use Rattle.ffa_model.specs.MemorySend.{memory_send};
 ghost use Rattle.ffa_spmc.specs.Replies.{change_told};
-ghost use Rattle.ffa_spmc.specs.Served.{IsAnswered, IsTold};
+ghost use Rattle.ffa_model.specs.State.{version_of};
+ghost use Rattle.ffa_spmc.specs.Served.{IsAnswered, IsReplied, IsTold};
 
 use super::Manager;
 use super::forgetting::conclude;
@@ -81,15 +83,67 @@ impl<M: PhysMem + Drop, S: Store> Manager<M, S> {
             let call = memory_retrieve self.old.state transfer in
             IsAnswered self.old self.new held kept news.old news.new true call result }
     {
+        if self.asks_back(transfer) {
+            return self.read_back(transfer);
+        }
         let base = self.ram_base();
         let done = self.pool_retrieve(transfer, news);
         conclude(cache, base, done, news)
     }
 
-    // The same, but the cache keeps what it had.
+    // Whether the runner asks, as a hypervisor, for what it sent.
+    pub(super) fn asks_back(&self, transfer: Transfer) -> bool
+        ensures { result ≡ asks_back self.now.state transfer }
+    {
+        let call = self.descriptor_call(transfer);
+        let runner = self.kept.chain.runner();
+        call.asks_back(&self.ram, &self.kept.buffers, runner)
+    }
+
+    // The call in these registers, whose descriptor stands in TX of the runner.
+    #[inline(always)]
+    pub(super) fn descriptor_call(&self, transfer: Transfer) -> DescriptorCall
+        ensures { result ≡ record {
+          transfer = transfer;
+          ffa = self.now.state.ffa;
+          version = version_of self.now.state self.now.state.runner;
+        } }
+    {
+        DescriptorCall {
+            transfer,
+            ffa: self.kept.manifest.ffa,
+            version: self.version(),
+        }
+    }
+
+    // A hypervisor's retrieve: RX of the runner tells what it sent.
+    #[inline(never)]
+    fn read_back(&mut self, transfer: Transfer) -> Reply
+        requires { asks_back self.old.state transfer ≡ true }
+        ensures { IsReplied self.old self.new (hypervisor_retrieve self.old.state transfer) result }
+    {
+        let call = self.descriptor_call(transfer);
+        let runner = self.kept.chain.runner();
+        let kept = &mut self.kept;
+        let told = kept.pool.read_back(
+            &mut self.ram,
+            &kept.layout,
+            &kept.pages,
+            &mut kept.buffers,
+            runner,
+            &call,
+        );
+        match told {
+            Ok(size) => Reply::Retrieved(size),
+            Err(code) => Reply::Error(code),
+        }
+    }
+
+    // The same of a receiver, but the cache keeps what it had.
     #[inline(always)]
     fn pool_retrieve(&mut self, transfer: Transfer, news: &mut News) -> Result<Value, ErrorCode>
-        ensures done { IsTold self.old self.new (memory_retrieve self.old.state transfer) result news.new }
+        requires { asks_back self.old.state transfer ≡ false }
+        ensures done { IsTold self.old self.new (receiver_retrieve self.old.state transfer) result news.new }
         ensures told { news.new ≡ option_or (change_told result news.new) news.old }
     {
         let ffa = self.kept.manifest.ffa;

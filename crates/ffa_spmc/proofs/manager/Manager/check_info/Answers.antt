@@ -1,5 +1,6 @@
 -- SPDX-License-Identifier: MIT OR Apache-2.0
-use Rattle.std.proofs.Common.{◌∙◌, sym}
+use Rattle.std.proofs.Common.{◌∙◌, Some, ap, sym}
+use Rattle.ffa_model.specs.declared.refusal.Refusal.{Refusal}
 use Rattle.ffa_model.specs.Setup.{uuid_bytes}
 use Rattle.ffa_spmc.proofs.Information.{info-unknown, info-count, info-unmapped, info-full, info-ready}
 use Rattle.ffa_spmc.proofs.Inside.{parts_of}
@@ -21,7 +22,8 @@ returns-then-is_count_alone g c =
 pub returns-then-not-has : goal.returns-then-not-has
 returns-then-not-has g c =
     let x = parts_of g.M.PhysMem.ram c.self.inside in
-    info-unmapped x c.args.self.now c.self.view_is c.runner-runner.result.0 c.runner-runner.ensures.runner
+    ap (λ (refusal : Refusal). Some refusal) c.missing_buffers.ensures
+    ∙ info-unmapped x c.args.self.now c.self.view_is c.runner-runner.result.0 c.runner-runner.ensures.runner
     (uuid_bytes c.args.uuid) c.args.flags (sym c.is_recognized.ensures ∙ c.if-not-is_recognized.false)
     (sym c.is_count_alone.ensures ∙ c.if-is_count_alone.false) (sym c.has.ensures ∙ c.if-not-has.true)
 
