@@ -119,7 +119,7 @@ abbrev pub with_record : App → App
 with_record app = with_optional (codes "of") (with_optional (codes "tag") (with_optional (codes "handle") (with_pages app)))
 
 abbrev pub with_record_flags : App → App
-with_record_flags app = with_flag (codes "compact") (with_flag (codes "zero") app)
+with_record_flags app = with_optional (codes "form") (with_flag (codes "zero") app)
 
 unfoldable pub descriptor_app : App
 descriptor_app =
@@ -195,7 +195,7 @@ pub record Described : Type 0 where
   pub tag : Option Text
   pub of : Option Text
   pub zero : Bool
-  pub compact : Bool
+  pub form : Option Text
 
 abbrev pub words_of : DescriptorWords → Described
 words_of w = record {
@@ -208,7 +208,7 @@ words_of w = record {
   tag = option_map (λ s. s.now) w.tag;
   of = option_map (λ s. s.now) w.of;
   zero = w.zero;
-  compact = w.compact;
+  form = option_map (λ s. s.now) w.form;
 }
 
 -- what a trace is played for
@@ -436,7 +436,7 @@ words_in rows kind = record {
   tag = first_of (codes "tag") rows;
   of = first_of (codes "of") rows;
   zero = is_given (codes "zero") rows;
-  compact = is_given (codes "compact") rows;
+  form = first_of (codes "form") rows;
 }
 
 unfoldable pub descriptor_in : List Row → Option Ask

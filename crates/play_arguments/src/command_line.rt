@@ -85,8 +85,8 @@ pub struct DescriptorWords<'a> {
     pub of: Option<&'a str>,
     /// Whether the call zeroes the pages.
     pub zero: bool,
-    /// Whether the descriptor has the compact form.
-    pub compact: bool,
+    /// The form of the descriptor, which is that of a version.
+    pub form: Option<&'a str>,
 }
 
 /// The options for a picture.
@@ -682,7 +682,7 @@ fn words_in<'a>(matches: &ArgMatches<'a>, kind: &'a str) -> DescriptorWords<'a>
         tag: text_of(matches, "tag"),
         of: text_of(matches, "of"),
         zero: is_given(matches, "zero"),
-        compact: is_given(matches, "compact"),
+        form: text_of(matches, "form"),
     }
 }
 

@@ -229,7 +229,10 @@ const OF: Word = Word::Value(
 
 const ZERO: Word = Word::Flag("zero", "Zero the pages; not for share or retrieve");
 
-const COMPACT: Word = Word::Flag("compact", "Write the \"compact\" form of the descriptor");
+const FORM: Word = Word::Value(
+    "form",
+    "Form of the descriptor: compact, 1.1 or 1.2 [default: 1.1]",
+);
 
 const VERSIONS: Word = Word::Value(
     "manifest",
@@ -249,7 +252,7 @@ const DESCRIPTOR: Entry = Entry {
     name: "descriptor",
     about: "Print trace lines that make a call on memory",
     words: &[
-        KIND, TX_ADDRESS, FROM, TO, PAGES, HANDLE, TAG, OF, ZERO, COMPACT, VERSIONS,
+        KIND, TX_ADDRESS, FROM, TO, PAGES, HANDLE, TAG, OF, ZERO, FORM, VERSIONS,
     ],
 };
 

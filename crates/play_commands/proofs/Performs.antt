@@ -3,7 +3,7 @@
 use Rattle.std.proofs.Common.{◌≡◌, Bor, true, false, List, ℕ, Option, None, Some, Result, Ok, Err, inl, inr, refl, ap, arith, IfErr, OnOk, is_some, option_map}
 use Rattle.std.specs.Io.KnownBytes.{Keeps}
 use Rattle.ffa_model.specs.declared.manifest.Ffa.{Ffa}
-use Rattle.ffa_model.specs.declared.manifest.Ffa.TheVariants.{V1_1}
+use Rattle.ffa_model.specs.declared.manifest.Ffa.TheVariants.{V1_2}
 use Rattle.ffa_manifest.specs.Document.{Parts}
 use Rattle.ffa_playable.specs.Bench.{Bench}
 use Rattle.play_report.specs.Descriptors.{AreWords, FailsToSay, FailsToSayFor, IsSaidFor}
@@ -53,7 +53,7 @@ needs_path None named = named
 needs_path (Some path) named = refl
 
 accepted_by : (path : Option (Bor (List ℕ))) (manifest : Option (List ℕ)) (words : DescriptorWords) (own : Described) → AreWords path manifest words own
-    → is_some (option_map (λ (s : Bor (List ℕ)). s.now) path) ≡ true → IsAccepted V1_1 manifest
+    → is_some (option_map (λ (s : Bor (List ℕ)). s.now) path) ≡ true → IsAccepted V1_2 manifest
 accepted_by None manifest words own are needed = absurd cc
 accepted_by (Some path) manifest words own (parts, is, same) needed = (parts, is)
 

@@ -6,7 +6,7 @@ use Rattle.std.specs.Io.KnownBytes.{Keeps}
 use Rattle.ffa_model.specs.State.{State}
 use Rattle.ffa_model.specs.First.{first}
 use Rattle.ffa_model.specs.declared.manifest.Ffa.{Ffa}
-use Rattle.ffa_model.specs.declared.manifest.Ffa.TheVariants.{V1_1}
+use Rattle.ffa_model.specs.declared.manifest.Ffa.TheVariants.{V1_1, V1_2}
 use Rattle.ffa_playable.specs.Bench.{Bench}
 use Rattle.play_demo.specs.Machine.{built_in_endpoints}
 use Rattle.ffa_manifest.specs.Document.{Parts}
@@ -50,12 +50,13 @@ built_in_parts ffa = record { ram_base = 0x40000000; ram_blocks = 1; tables = 0;
 abbrev pub needs_manifest : Request → Bool
 needs_manifest request = is_some (manifest_of (ask_of request))
 
--- the version of FF-A that the machine of a command's manifest serves
+-- the version of FF-A that the machine of a command's manifest serves; a descriptor takes the manifest of a machine of any version
 abbrev pub ffa_of : Request → Ffa
 ffa_of (request.Play o) = o.machine.ffa
 ffa_of (request.Check manifest ffa verbose) = ffa
 ffa_of (request.Layout manifest regions ffa verbose) = ffa
 ffa_of (request.Generate o) = o.ffa
+ffa_of (request.Descriptor path words) = V1_2
 ffa_of other = V1_1
 
 -- whether a command plays a trace

@@ -5,6 +5,8 @@ use Rattle.std.specs.List.{slice_split}
 use Rattle.play_syntax.specs.TraceLines.{number_in}
 use Rattle.ffa_model.specs.declared.endpoint.Address.{Address}
 use Rattle.ffa_model.specs.declared.endpoint.EndpointId.{EndpointId}
+use Rattle.ffa_model.specs.declared.endpoint.Version.{Version}
+use Rattle.ffa_model.specs.declared.endpoint.Version.TheVariants.{Compact, V1_1, V1_2}
 use Rattle.ffa_model.specs.declared.rights.Data.{Data}
 use Rattle.ffa_model.specs.declared.rights.Data.TheVariants.{Ro, Rw}
 use Rattle.ffa_model.specs.declared.rights.Kind.{Kind}
@@ -78,6 +80,14 @@ kind_of word =
     if bytes_eq word (codes "donate") then Some Donate
     else if bytes_eq word (codes "lend") then Some Lend
     else if bytes_eq word (codes "share") then Some Share
+    else None
+
+-- a version, in whose form a descriptor is written
+unfoldable pub version_of : List ℕ → Option Version
+version_of word =
+    if bytes_eq word (codes "compact") then Some Compact
+    else if bytes_eq word (codes "1.1") then Some V1_1
+    else if bytes_eq word (codes "1.2") then Some V1_2
     else None
 
 -- a data right

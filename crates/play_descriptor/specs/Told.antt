@@ -6,7 +6,7 @@ use Rattle.play_syntax.specs.TraceLines.{number_in}
 use Rattle.ffa_model.specs.declared.endpoint.EndpointId.{EndpointId}
 use Rattle.ffa_model.specs.declared.endpoint.Address.{Address}
 use Rattle.ffa_model.specs.declared.endpoint.Version.{Version}
-use Rattle.ffa_model.specs.declared.endpoint.Version.TheVariants.{Compact, V1_1}
+use Rattle.ffa_model.specs.declared.endpoint.Version.TheVariants.{V1_1}
 use Rattle.ffa_model.specs.declared.limits.TheConstants.{MOST_RANGES, MOST_RECEIVERS}
 use Rattle.ffa_model.specs.declared.rights.Kind.{Kind}
 use Rattle.ffa_model.specs.declared.transaction.Range.{Range}
@@ -14,7 +14,7 @@ use Rattle.ffa_model.specs.declared.transaction.Receiver.{Receiver}
 use Rattle.play_writer.specs.declared.descriptor.DescriptorContents.TheVariants.{Send, Retrieve, Relinquish}
 use Rattle.play_writer.specs.declared.reclaim.Reclaim.{Reclaim}
 use Rattle.play_descriptor.specs.Forms.{form_of}
-use Rattle.play_descriptor.specs.Members.{asker_of, each, first_misplaced, identifier_of, kind_of, members_of, range_of, receiver_of, tx_of}
+use Rattle.play_descriptor.specs.Members.{asker_of, each, first_misplaced, identifier_of, kind_of, members_of, range_of, receiver_of, tx_of, version_of}
 use Rattle.play_descriptor.specs.declared.fault.Form.{Form}
 use Rattle.play_descriptor.specs.declared.fault.Form.TheVariants as form
 use Rattle.play_descriptor.specs.declared.fault.Word.{Word}
@@ -83,6 +83,10 @@ tag_in d = read_or 0 (number_in 16) words.Tag d.tag
 unfoldable pub of_in : Described → Result (Option Kind) WordsFault
 of_in d = read_or None (λ text. option_map (λ kind. Some kind) (kind_of text)) words.Of d.of
 
+-- the version in whose form the descriptor is written
+unfoldable pub version_in : Described → Result Version WordsFault
+version_in d = read_or V1_1 version_of words.Form d.form
+
 unfoldable pub receivers_in : Form → List ℕ → Result (List Receiver) WordsFault
 receivers_in form text = do
   few ← at_most MOST_RECEIVERS words.To text
@@ -108,9 +112,6 @@ endpoint_in text = do
 
 -- DESCRIPTORS
 
-abbrev pub version_in : Described → Version
-version_in d = if d.compact then Compact else V1_1
-
 -- a donate, a lend or a share
 unfoldable pub send_told : Kind → Described → Result Told WordsFault
 send_told kind d = do
@@ -125,8 +126,9 @@ send_told kind d = do
   receivers ← receivers_in (form_of kind) to
   ranges ← ranges_in pages
   tag ← tag_in d
+  version ← version_in d
   Ok (record {
-    version = version_in d;
+    version = version;
     descriptor = Send kind (record {
       sender = sender;
       zero = d.zero;
@@ -151,8 +153,9 @@ retrieve_told d = do
   handle ← handle_in handle_word
   tag ← tag_in d
   kind ← of_in d
+  version ← version_in d
   Ok (record {
-    version = version_in d;
+    version = version;
     descriptor = Retrieve (record {
       sender = sender;
       handle = handle;
@@ -176,8 +179,9 @@ relinquish_told d = do
   tx ← tx_in tx_word
   endpoint ← endpoint_in to
   handle ← handle_in handle_word
+  version ← version_in d
   Ok (record {
-    version = version_in d;
+    version = version;
     descriptor = Relinquish (record { handle = handle; zero = d.zero; endpoint = endpoint });
     tx = tx;
   })
@@ -198,7 +202,7 @@ reclaim_told d = do
   no_pages ← refuse form.Reclaim words.Pages (is_some d.pages)
   no_tag ← refuse form.Reclaim words.Tag (is_some d.tag)
   no_of ← refuse form.Reclaim words.Of (is_some d.of)
-  no_compact ← refuse form.Reclaim words.Compact d.compact
+  no_form ← refuse form.Reclaim words.Form (is_some d.form)
   handle_word ← require words.Handle d.handle
   handle ← handle_in handle_word
   Ok (record { handle = handle; zero = d.zero })

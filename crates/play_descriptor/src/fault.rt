@@ -19,7 +19,7 @@ pub enum Word {
     Tag,
     Of,
     Zero,
-    Compact,
+    Form,
 }
 
 /// What words are for: a descriptor and its call, or a reclaim, which has no descriptor. It prints as the command's word.
@@ -62,7 +62,7 @@ impl Word {
             Word::Tag => "--tag",
             Word::Of => "--of",
             Word::Zero => "--zero",
-            Word::Compact => "--compact",
+            Word::Form => "--form",
         }
     }
 
@@ -75,7 +75,8 @@ impl Word {
             Word::Pages => "must be ADDRESS+PAGES, such as 40021000+1",
             Word::Handle | Word::Tag => "must be a hexadecimal number of 1 to 16 digits",
             Word::Of => "must be donate, lend or share",
-            Word::Zero | Word::Compact => "must be a flag without a value",
+            Word::Zero => "must be a flag without a value",
+            Word::Form => "must be compact, 1.1 or 1.2",
         }
     }
 }

@@ -1,13 +1,15 @@
 // SPDX-License-Identifier: MIT OR Apache-2.0
 //! Words that are read by themselves.
 ghost use Rattle.std.specs.Prelude.{◌≡◌, ◌%◌, ◌≤◌, length, option_map, IfSome};
-ghost use Rattle.play_descriptor.specs.Members.{asker_of, each, first_misplaced, grant_of, identifier_of, kind_of, members_of, misplaced_of, page_count_of, range_of, receiver_of, right_of, tx_of};
+ghost use Rattle.play_descriptor.specs.Members.{asker_of, each, first_misplaced, grant_of, identifier_of, kind_of, members_of, misplaced_of, page_count_of, range_of, receiver_of, right_of, tx_of, version_of};
 
 use crate::fault::Form;
 use crate::parts::{cut, number, one_or_two};
 use crate::right::Right;
 use arrayvec::ArrayVec;
-use ffa_model::{Address, Data, EndpointId, Kind, MOST_RANGES, MOST_RECEIVERS, Range, Receiver};
+use ffa_model::{
+    Address, Data, EndpointId, Kind, MOST_RANGES, MOST_RECEIVERS, Range, Receiver, Version,
+};
 
 /// The endpoint that retrieves, and the right that it asks for. A right to data that is `None` isn't specified.
 #[derive(Clone, Copy, PartialEq, Eq)]
@@ -69,6 +71,19 @@ pub(crate) fn read_kind(word: &str) -> Option<Kind>
         "donate" => Some(Kind::Donate),
         "lend" => Some(Kind::Lend),
         "share" => Some(Kind::Share),
+        _ => None,
+    }
+}
+
+/// The version in whose form a descriptor is written.
+#[tactic(auto, unfolding(crate::specs::Members::version_of))]
+pub(crate) fn read_version(word: &str) -> Option<Version>
+    ensures { result ≡ version_of word.now }
+{
+    match word {
+        "compact" => Some(Version::Compact),
+        "1.1" => Some(Version::V1_1),
+        "1.2" => Some(Version::V1_2),
         _ => None,
     }
 }

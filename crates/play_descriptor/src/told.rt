@@ -7,7 +7,7 @@ ghost use Rattle.play_descriptor.specs.Told.{Exact, HasAlignedTx, asked, asker_i
 use crate::fault::{Form, Word, WordsFault};
 use crate::members::{
     Asker, first_misplaced, read_asker, read_identifier, read_kind, read_ranges, read_receivers,
-    read_tx,
+    read_tx, read_version,
 };
 use crate::parts::{commas, number};
 use arrayvec::ArrayVec;
@@ -36,7 +36,8 @@ pub enum Asked {
 
 /// Reads the words of a descriptor or of a reclaim, or says what is wrong first with them.
 ///
-/// Numbers are hexadecimal, of 1 to 16 digits, and may have `0x` or `0X` before them. Each descriptor needs where TX stands. A
+/// Numbers are hexadecimal, of 1 to 16 digits, and may have `0x` or `0X` before them. Each descriptor needs where TX stands, and
+/// may have a form, which is that of FF-A 1.1 if no form is given. A
 /// donate, a lend and a share need the sender, the receivers and the pages, and may have a tag and be zeroed; a receiver of a lend
 /// or a share has a right to data, which the writer checks. A retrieve needs the sender, the one receiver, which may have a right to data and to
 /// instructions, and the handle, and may have a tag and the kind of the transaction. A relinquish needs the one receiver and the
@@ -89,7 +90,7 @@ fn send(kind: Kind, words: &DescriptorWords<'_>) -> Result<Told, WordsFault>
         tag: tag_in(words)?,
     };
     Ok(Told {
-        version: version_in(words),
+        version: version_in(words)?,
         descriptor: DescriptorContents::Send { kind, desc },
         tx,
     })
@@ -118,7 +119,7 @@ fn retrieve(words: &DescriptorWords<'_>) -> Result<Told, WordsFault>
         exec: asker.exec,
     };
     Ok(Told {
-        version: version_in(words),
+        version: version_in(words)?,
         descriptor: DescriptorContents::Retrieve {
             desc,
             receiver: asker.endpoint,
@@ -147,7 +148,7 @@ fn relinquish(words: &DescriptorWords<'_>) -> Result<Told, WordsFault>
         endpoint,
     };
     Ok(Told {
-        version: version_in(words),
+        version: version_in(words)?,
         descriptor: DescriptorContents::Relinquish(desc),
         tx,
     })
@@ -163,7 +164,7 @@ fn reclaim(words: &DescriptorWords<'_>) -> Result<Reclaim, WordsFault>
     refuse(Form::Reclaim, Word::Pages, words.pages.is_some())?;
     refuse(Form::Reclaim, Word::Tag, words.tag.is_some())?;
     refuse(Form::Reclaim, Word::Of, words.of.is_some())?;
-    refuse(Form::Reclaim, Word::Compact, words.compact)?;
+    refuse(Form::Reclaim, Word::Form, words.form.is_some())?;
     let handle = require(Word::Handle, words.handle)?;
     Ok(Reclaim {
         handle: handle_in(handle)?,
@@ -205,16 +206,6 @@ fn only_rights(form: Form, text: &str) -> Result<(), WordsFault>
     match first_misplaced(form, text) {
         None => Ok(()),
         Some(right) => Err(WordsFault::RightOutOfPlace(right, form)),
-    }
-}
-
-fn version_in(words: &DescriptorWords<'_>) -> Version
-    ensures { result ≡ version_in (words_of words.now) }
-{
-    if words.compact {
-        Version::Compact
-    } else {
-        Version::V1_1
     }
 }
 
@@ -260,6 +251,16 @@ fn of_in(words: &DescriptorWords<'_>) -> Result<Option<Kind>, WordsFault>
     match read_kind(text) {
         None => Err(WordsFault::Unreadable(Word::Of)),
         Some(kind) => Ok(Some(kind)),
+    }
+}
+
+#[tactic(auto, unfolding(crate::specs::Told::version_in))]
+fn version_in(words: &DescriptorWords<'_>) -> Result<Version, WordsFault>
+    ensures { result ≡ version_in (words_of words.now) }
+{
+    match words.form {
+        None => Ok(Version::V1_1),
+        Some(text) => read_version(text).ok_or(WordsFault::Unreadable(Word::Form)),
     }
 }
 

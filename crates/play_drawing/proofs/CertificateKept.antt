@@ -180,9 +180,9 @@ module _ (s : State) where
 
   left-service : (call : calls.Call) → is_memory_call call ≡ false → IsLeft s (service s call).state
   left-service (PartitionInfoGet uuid flags) beside =
-      elim (is_count_alone flags) as (λ b. IsLeft s (cond b s (filled s s.runner (info_bytes (version_of s s.runner) s.parties (uuid_bytes uuid))))) [
+      elim (is_count_alone flags) as (λ b. IsLeft s (cond b s (filled s s.runner (info_bytes s.ffa (version_of s s.runner) s.parties (uuid_bytes uuid))))) [
         | true ↦ still
-        | false ↦ left-filled s.runner (info_bytes (version_of s s.runner) s.parties (uuid_bytes uuid))
+        | false ↦ left-filled s.runner (info_bytes s.ffa (version_of s s.runner) s.parties (uuid_bytes uuid))
       ]
   left-service (Version word) beside =
       version-leaves (IsLeft s) s.ffa s word still (λ version. record { parties = refl; base = refl; transactions = refl; pages = unwritten s.pages })

@@ -35,5 +35,5 @@ single_flaw (Send flaw) = single_at SEND.now (tag_of send_flaw flaw) refl
 single_flaw (Access index flaw) = single_at ACCESS.now (tag_of access_flaw flaw) refl
 single_flaw (Composite flaw) = single_at COMPOSITE.now (tag_of composite_flaw flaw) refl
 single_flaw (Range index flaw) = single_at RANGE.now (tag_of range_flaw flaw) refl
-single_flaw (Retrieve flaw) = single_at RETRIEVE.now (tag_of retrieve_flaw flaw) refl
+single_flaw (Retrieve index flaw) = single_at RETRIEVE.now (tag_of retrieve_flaw flaw) refl
 single_flaw (Relinquish flaw) = single_at RELINQUISH.now (tag_of relinquish_flaw flaw) refl

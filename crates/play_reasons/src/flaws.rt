@@ -60,11 +60,11 @@ const ACCESS: &[(AccessFlaw, &str)] = &[
     ),
     (
         AccessFlaw::Flags,
-        "the flags of the access descriptor are not 0",
+        "the access descriptor has a flag that this call does not allow",
     ),
     (
         AccessFlaw::OtherComposite,
-        "the access descriptor refers to a different composite than the first one",
+        "the access descriptor refers to a different composite than this call allows",
     ),
     (
         AccessFlaw::Reserved,
@@ -128,15 +128,15 @@ const RETRIEVE: &[(RetrieveFlaw, &str)] = &[
     ),
     (
         RetrieveFlaw::Flags,
-        "a flag other than the transaction type is set",
+        "a flag is set that this call does not allow",
     ),
     (
         RetrieveFlaw::AccessCount,
-        "the number of access descriptors is not 1",
+        "the number of access descriptors is not 1, or in FF-A 1.2 not one to four",
     ),
     (
         RetrieveFlaw::ReceiverIsAnother,
-        "the access descriptor does not name the caller",
+        "no access descriptor names the caller",
     ),
     (
         RetrieveFlaw::DataPermission,
@@ -158,6 +158,10 @@ const RETRIEVE: &[(RetrieveFlaw, &str)] = &[
     (
         RetrieveFlaw::AccessReserved,
         "reserved bytes of the access descriptor are not 0",
+    ),
+    (
+        RetrieveFlaw::NotZero,
+        "a field of a hypervisor's retrieve is not 0, and is not the handle",
     ),
 ];
 
@@ -205,7 +209,7 @@ fn range_words(flaw: RangeFlaw) -> &'static str
 }
 
 fn retrieve_words(flaw: RetrieveFlaw) -> &'static str
-    ensures { result.now ≡ flaw_words_of (Retrieve flaw) }
+    ensures { result.now ≡ flaw_words_of (Retrieve 0 flaw) }
 {
     RETRIEVE[flaw as usize].1
 }
@@ -227,7 +231,7 @@ pub fn flaw_words(flaw: Flaw) -> &'static str
         Flaw::Access(_, flaw) => access_words(flaw),
         Flaw::Composite(flaw) => composite_words(flaw),
         Flaw::Range(_, flaw) => range_words(flaw),
-        Flaw::Retrieve(flaw) => retrieve_words(flaw),
+        Flaw::Retrieve(_, flaw) => retrieve_words(flaw),
         Flaw::Relinquish(flaw) => relinquish_words(flaw),
     }
 }

@@ -281,7 +281,7 @@ fn put_index<A: Allocator>(text: &mut Draft<A>, flaw: Flaw)
         Flaw::Header(_)
         | Flaw::Send(_)
         | Flaw::Composite(_)
-        | Flaw::Retrieve(_)
+        | Flaw::Retrieve(_, _)
         | Flaw::Relinquish(_) => {}
     }
 }

@@ -4,7 +4,7 @@ use denote.Ref.{Bor}
 use Rattle.std.specs.Prelude.{◌≡◌, ◌⊎◌, ℕ, true, is_some, List, [], Option, None, Some, Ok, Err, ⊤}
 use Rattle.std.specs.Io.KnownBytes.{Appends, Keeps}
 use Rattle.play_writer.specs.declared.unfit.Unfit.{Unfit}
-use Rattle.ffa_model.specs.declared.manifest.Ffa.TheVariants.{V1_1}
+use Rattle.ffa_model.specs.declared.manifest.Ffa.TheVariants.{V1_2}
 use Rattle.ffa_model.specs.declared.operation.Op.TheVariants.{Call}
 use Rattle.play_writer.specs.Script.{GrowsBy}
 use Rattle.play_writer.specs.Written.{GrowsByDescriptor, reclaim_with, unfit_of}
@@ -55,11 +55,11 @@ FailsToSay words held holds failure.Write = ⊤
 FailsToSay words held holds failure.NoMemory = ⊤
 FailsToSay words held holds other = ⊥
 
--- these are the words of a command, in the form that the caller has by the manifest of a machine of FF-A 1.1, where one is named
+-- these are the words of a command, in the form that the caller has by the manifest of a machine of FF-A 1.2, where one is named
 abbrev pub AreWords : Option (Bor (List ℕ)) → (manifest : Option (List ℕ)) → DescriptorWords → Described → Type 0
 AreWords None manifest words own = own ≡ words_of words
 AreWords (Some path) manifest words own =
-    (parts : Parts) × Describes V1_1 manifest parts × (own ≡ versioned parts.endpoints (words_of words))
+    (parts : Parts) × Describes V1_2 manifest parts × (own ≡ versioned parts.endpoints (words_of words))
 
 -- they ask for it, and its lines were written
 abbrev pub IsSaidFor : Option (Bor (List ℕ)) → DescriptorWords → (manifest held holds : Option (List ℕ)) → Type 0
@@ -69,4 +69,4 @@ IsSaidFor path words manifest held holds = (own : Described) × AreWords path ma
 abbrev pub FailsToSayFor : Option (Bor (List ℕ)) → DescriptorWords → (manifest held holds : Option (List ℕ)) → Failure → Type 0
 FailsToSayFor path words manifest held holds failure =
     ((own : Described) × AreWords path manifest words own × FailsToSay own held holds failure)
-    ⊎ ((is_some path ≡ true) × FailsUnplayed V1_1 manifest None None failure × Keeps held holds)
+    ⊎ ((is_some path ≡ true) × FailsUnplayed V1_2 manifest None None failure × Keeps held holds)

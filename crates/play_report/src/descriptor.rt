@@ -19,8 +19,9 @@ use std::alloc::{Allocator, Global};
 use std::io::Write;
 
 /// Prints the lines of a trace that write the descriptor of these words and make its call, or of a reclaim the line of its
-/// call. Where the manifest of a machine of FF-A 1.1 is named by this path, of whose file these are the bytes, if it could be
-/// read, the descriptor has the form that the caller has there.
+/// call. Where a manifest is named by this path, of whose file these are the bytes, if it could be read, and the words give no
+/// form, the descriptor has the form that the caller has there. The manifest may be that of a machine of FF-A 1.1 or 1.2: a
+/// machine of 1.2 accepts each manifest that a machine of 1.1 accepts.
 pub fn describe_for<'a, A: Allocator + Copy, W: Write>(
     alloc: A,
     manifests: Global,
@@ -36,7 +37,7 @@ pub fn describe_for<'a, A: Allocator + Copy, W: Write>(
     let Some(path) = path else {
         return describe(alloc, &words, out);
     };
-    let manifest = read_manifest(manifests, path, manifest, Ffa::V1_1, notes)?;
+    let manifest = read_manifest(manifests, path, manifest, Ffa::V1_2, notes)?;
     describe(alloc, &words_for(words, &manifest), out)
 }
 

@@ -91,7 +91,7 @@ CountsOne at old new = new ≡ one_more at old
 
 -- where the count of a row's check stands, which is counted from 1
 abbrev pub check_cell : ℕ → ℕ → ℕ
-check_cell row number = 15 * row + number - 1
+check_cell row number = 16 * row + number - 1
 
 -- where the count of an operation's check stands, if that is one of the call's
 abbrev pub check_cell_of : Op → Refusal → Option ℕ

@@ -26,7 +26,7 @@ const COLUMNS: usize = 6;
 const CELLS: usize = COLUMNS * ROWS;
 
 /// No call has more checks.
-const MOST_CHECKS: usize = 15;
+const MOST_CHECKS: usize = 16;
 
 /// As many checks of each call, and of what is no call.
 const CHECKS: usize = MOST_CHECKS * (UNKNOWN + 1);
@@ -168,7 +168,7 @@ fn check_cell(row: usize, number: usize) -> usize
     MOST_CHECKS * row + number - 1
 }
 
-// The number of a call's check, which is one of its first 15.
+// The number of a call's check, which is one of its first 16.
 fn number_of(x: &[u64; 8], refusal: Refusal) -> Option<usize>
     ensures number { result ≡ number_of (low (slice_index x.now 0)) refusal }
     ensures some { IfSome result (λ number. 1 ≤ number) }

@@ -1,16 +1,19 @@
 // SPDX-License-Identifier: MIT OR Apache-2.0
 //! Why traces don't reach a check.
-ghost use Rattle.std.specs.Prelude.{◌≡◌, ◌==◌, ◌&&◌, bit_and, drop, is_none, is_some, true, if◌then◌else◌, None, Some};
+ghost use Rattle.std.specs.Prelude.{◌≡◌, ◌==◌, ◌&&◌, bit_and, drop, is_none, is_some, not, true, if◌then◌else◌, None, Some};
 ghost use Rattle.std.specs.List.{list_all};
+ghost use Rattle.ffa_model.specs.Codes.{serves_1_1};
 ghost use Rattle.ffa_model.specs.Regions.{normal_of, regions_at};
 ghost use Rattle.play_transcript.specs.Unreached.{have_all, is_unreached};
 
 use bitflags::Flags;
-use ffa_model::function::{FFA_MEM_DONATE, FFA_MEM_SHARE, FFA_RUN};
-use ffa_model::{Endpoint, Manifest, Properties, Refusal};
+use ffa_model::function::{
+    FFA_MEM_DONATE, FFA_MEM_RETRIEVE_REQ, FFA_MEM_SHARE, FFA_PARTITION_INFO_GET, FFA_RUN,
+};
+use ffa_model::{Endpoint, Ffa, Manifest, Properties, Refusal};
 
 /// What every endpoint of a machine may do, of direct requests and of indirect messages; of receiving requests every partition.
-/// And whether all of its memory is alike, and one processor alone runs it.
+/// And whether all of its memory is alike, one processor alone runs it, and which version of FF-A it serves.
 #[derive(Clone, Copy, Default)]
 pub struct Everyone {
     pub sends_requests: bool,
@@ -18,6 +21,8 @@ pub struct Everyone {
     pub takes_messages: bool,
     pub tells_no_worlds: bool,
     pub runs_alone: bool,
+    pub serves_1_1: bool,
+    pub serves_1_2: bool,
 }
 
 impl Everyone {
@@ -28,6 +33,8 @@ impl Everyone {
         takes_messages: true,
         tells_no_worlds: true,
         runs_alone: true,
+        serves_1_1: true,
+        serves_1_2: true,
     };
 
     /// On the machine of a manifest, which one processor runs alone.
@@ -37,6 +44,8 @@ impl Everyone {
         ensures takes { result.takes_messages ≡ have_all 2 manifest.now.endpoints.items }
         ensures worlds { result.tells_no_worlds ≡ is_none (normal_of manifest.now.ffa (regions_at manifest.now.endpoints.items 0)) }
         ensures alone { result.runs_alone ≡ true }
+        ensures first { result.serves_1_1 ≡ serves_1_1 manifest.now.ffa }
+        ensures second { result.serves_1_2 ≡ not (serves_1_1 manifest.now.ffa) }
     {
         let all = manifest.endpoints.as_slice();
         let partitions = &all[all.len().min(1)..];
@@ -46,6 +55,8 @@ impl Everyone {
             takes_messages: all_have(all, Properties::INDIRECT_MESSAGES),
             tells_no_worlds: !manifest.tells_worlds(),
             runs_alone: true,
+            serves_1_1: manifest.ffa == Ffa::V1_1,
+            serves_1_2: manifest.ffa != Ffa::V1_1,
         }
     }
 
@@ -56,6 +67,8 @@ impl Everyone {
         ensures takes { result.takes_messages ≡ (self.takes_messages && other.takes_messages) }
         ensures worlds { result.tells_no_worlds ≡ (self.tells_no_worlds && other.tells_no_worlds) }
         ensures alone { result.runs_alone ≡ (self.runs_alone && other.runs_alone) }
+        ensures first { result.serves_1_1 ≡ (self.serves_1_1 && other.serves_1_1) }
+        ensures second { result.serves_1_2 ≡ (self.serves_1_2 && other.serves_1_2) }
     {
         Everyone {
             sends_requests: self.sends_requests && other.sends_requests,
@@ -63,6 +76,8 @@ impl Everyone {
             takes_messages: self.takes_messages && other.takes_messages,
             tells_no_worlds: self.tells_no_worlds && other.tells_no_worlds,
             runs_alone: self.runs_alone && other.runs_alone,
+            serves_1_1: self.serves_1_1 && other.serves_1_1,
+            serves_1_2: self.serves_1_2 && other.serves_1_2,
         }
     }
 }
@@ -111,9 +126,22 @@ pub fn why_unreached(everyone: Everyone, function: u32, refusal: Refusal) -> Opt
             everyone.takes_messages,
             "every endpoint may send and receive indirect messages",
         ),
+        Refusal::ReceiversDiffer | Refusal::BuffersNeeded => of_call(everyone.serves_1_1, LATER),
+        Refusal::NotTheSenders => {
+            of_call(
+                function == FFA_MEM_RETRIEVE_REQ && everyone.serves_1_1,
+                LATER,
+            )
+        }
+        Refusal::BuffersMissing => of_call(
+            function == FFA_PARTITION_INFO_GET && everyone.serves_1_2,
+            "only a machine of FF-A 1.1 makes this check",
+        ),
         _ => None,
     }
 }
+
+const LATER: &str = "only a machine of FF-A 1.2 makes this check";
 
 // A reason, where it holds.
 fn of_call(holds: bool, reason: &'static str) -> Option<&'static str>

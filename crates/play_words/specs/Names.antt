@@ -2,7 +2,7 @@
 -- The names of arguments.
 use Rattle.std.specs.Prelude.{ℕ, List, codes}
 use Rattle.play_words.specs.declared.name.Name.{Name}
-use Rattle.play_words.specs.declared.name.Name.TheVariants.{Major, Minor, Feature, Tx, Rx, Pages, Endpoint, Uuid, CountOnly, Partition, Context, Sender, Receiver, Flags, Payload0, Payload1, Payload2, Payload3, Payload4, Length, Fragment, Address, Handle, Contexts, Bits}
+use Rattle.play_words.specs.declared.name.Name.TheVariants.{Major, Minor, Feature, Tx, Rx, Pages, Endpoint, Uuid, CountOnly, Partition, Context, Flags, Sender, Receiver, Payload0, Payload1, Payload2, Payload3, Payload4, Length, Fragment, Address, Handle, Contexts, Bits}
 
 abbrev pub name_text : Name → List ℕ
 name_text Major = codes "major"
@@ -16,9 +16,9 @@ name_text Uuid = codes "uuid"
 name_text CountOnly = codes "count_only"
 name_text Partition = codes "partition"
 name_text Context = codes "context"
+name_text Flags = codes "flags"
 name_text Sender = codes "sender"
 name_text Receiver = codes "receiver"
-name_text Flags = codes "flags"
 name_text Payload0 = codes "payload0"
 name_text Payload1 = codes "payload1"
 name_text Payload2 = codes "payload2"

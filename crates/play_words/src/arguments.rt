@@ -53,7 +53,8 @@ pub const ARGUMENTS: &[(u32, &[Argument])] = &rows![
     FFA_RXTX_UNMAP: [Endpoint Word 1 0xFFFF_FFFF Zero];
     FFA_PARTITION_INFO_GET: [Uuid Words 1 0xFFFF_FFFF_FFFF_FFFF_FFFF_FFFF_FFFF_FFFF Zero, CountOnly Low 5 0x1 Zero];
     FFA_ID_GET: [];
-    FFA_MSG_WAIT FFA_YIELD: [Partition High 1 0xFFFF Zero, Context Low 1 0xFFFF Zero];
+    FFA_MSG_WAIT: [Partition High 1 0xFFFF Zero, Context Low 1 0xFFFF Zero, Flags Word 2 0xFFFF_FFFF Zero];
+    FFA_YIELD: [Partition High 1 0xFFFF Zero, Context Low 1 0xFFFF Zero];
     FFA_RUN: [Partition High 1 0xFFFF Needed, Context Low 1 0xFFFF Zero];
     FFA_MSG_SEND_DIRECT_REQ FFA_MSG_SEND_DIRECT_RESP: [
         Sender High 1 0xFFFF Needed,

@@ -1,17 +1,23 @@
 -- SPDX-License-Identifier: MIT OR Apache-2.0
 -- The bytes of a retrieve are read as it.
-use Rattle.std.proofs.Common.{◌≡◌, ◌≢◌, ◌∙◌, ℕ, ◌+◌, ◌*◌, ◌≤◌, ◌^◌, ◌<◌, Bool, true, false, eqb, List, [], ◌++◌, length, Option, Some, None, refl, sym, subst, inl, arith, length-append, append-nil}
+use Rattle.std.proofs.Common.{◌≡◌, ◌≢◌, ◌∙◌, ℕ, ◌+◌, ◌*◌, ◌≤◌, ◌^◌, ◌<◌, ◌==◌, Bool, true, false, cond, eqb, List, [], ◌++◌, length, Option, Some, None, refl, sym, ap, subst, inl, inr, arith, length-append, append-nil, nat_le, position}
+use Rattle.std.specs.Prelude.{unwrap_or}
+use Rattle.std.proofs.lemmas.Bool.{cases_Bool}
 use Rattle.ffa_model.specs.declared.endpoint.Version.{Version}
 use Rattle.ffa_model.specs.declared.endpoint.Version.TheVariants.{Compact, V1_1, V1_2}
+use Rattle.ffa_model.specs.declared.limits.TheConstants.{MOST_RECEIVERS}
+use Rattle.ffa_model.specs.declared.manifest.Ffa.{Ffa}
+use Rattle.ffa_model.specs.declared.manifest.Ffa.TheVariants as served
 use Rattle.ffa_model.specs.declared.rights.Data.{Data}
 use Rattle.ffa_model.specs.declared.rights.Data.TheVariants.{Ro, Rw}
 use Rattle.ffa_model.specs.declared.rights.Kind.{Kind}
-use Rattle.ffa_model.specs.declared.rights.Kind.TheVariants.{Share}
+use Rattle.ffa_model.specs.declared.rights.Kind.TheVariants.{Share, Lend, Donate}
 use Rattle.ffa_model.specs.declared.descriptor.RetrieveDesc.{RetrieveDesc}
-use Rattle.ffa_model.specs.Bits.{bits}
-use Rattle.ffa_model.specs.DescriptorPlaces.{in_version, accesses_size, array_place, data_code, exec_code, kind_code}
+use Rattle.ffa_model.specs.Bits.{bits, is_set}
+use Rattle.ffa_model.specs.DescriptorPlaces.{Versioned, in_version, access_flags_field, access_place, accesses_size, array_place, composite_field, data_code, endpoint_field, exec_code, flags_field, is_access_rest_zero, kind_code, permissions_field, receiver_count}
+use Rattle.ffa_model.specs.Lists.{listed}
 use Rattle.ffa_model.specs.ResponseBytes.{le}
-use Rattle.ffa_model.specs.RetrieveDescriptor.{Retrieve}
+use Rattle.ffa_model.specs.RetrieveDescriptor.{HasNames, IsNaming, Retrieve, endpoint_named, flags_but_alone, index_of, is_named_count, own_place}
 use Rattle.play_writer.specs.Composed.{heading_bytes, entry_bytes, retrieve_heading, asked_of}
 use Rattle.play_writer.proofs.Headings.{Fitting, headed, is_header_of, length-heading}
 use Rattle.play_writer.proofs.Places.{entry_at}
@@ -42,9 +48,52 @@ length-entry Compact e p c = refl
 length-entry V1_1 e p c = refl
 length-entry V1_2 e p c = refl
 
-with_rest : (version : Version) (e : ℕ) (d : RetrieveDesc) (rest : List ℕ) → Fitting (retrieve_heading d) → e < 2 ^ 16
-    → Retrieve e (in_version version (heading_bytes version (retrieve_heading d) ++ (entry_bytes version e (asked_of d) 0 ++ rest))) d
-with_rest version e d rest fits small =
+-- ON A MACHINE OF ANY FF-A: a descriptor that names the caller alone
+counted : (ffa : Ffa) (flags count : ℕ) → count ≡ 1 → is_named_count ffa flags count ≡ true
+counted served.V1_1 flags count one = rw one refl
+counted served.V1_2 flags count one = rw one (of (is_set 10 flags))
+  where
+    of : (alone : Bool) → nat_le 1 (cond alone 1 MOST_RECEIVERS) ≡ true
+    of true = refl
+    of false = refl
+
+flags-asked : (ffa : Ffa) (k : Option Kind) (flags : ℕ) → flags ≡ 8 * kind_code k → flags_but_alone ffa flags ≡ 8 * kind_code k
+flags-asked served.V1_1 k flags is = is
+flags-asked served.V1_2 k flags is = ap (flags_but_alone served.V1_2) is ∙ of k
+  where
+    of : (k : Option Kind) → flags_but_alone served.V1_2 (8 * kind_code k) ≡ 8 * kind_code k
+    of None = refl
+    of (Some Share) = refl
+    of (Some Lend) = refl
+    of (Some Donate) = refl
+
+first-place : (b : Versioned) → access_place b 0 ≡ array_place b
+first-place b = of b.version
+  where
+    of : (version : Version) → array_place b + accesses_size version 0 ≡ array_place b
+    of Compact = omega arith
+    of V1_1 = omega arith
+    of V1_2 = omega arith
+
+own-first : (ffa : Ffa) (e : ℕ) (b : Versioned) → receiver_count b ≡ 1 → own_place ffa e b ≡ array_place b
+own-first served.V1_1 e b one = refl
+own-first served.V1_2 e b one = ap (access_place b) index ∙ first-place b
+  where
+    index : index_of e b ≡ 0
+    index =
+        ap (λ (n : ℕ). unwrap_or (position (λ x. x == e) (listed n (endpoint_named b))) 0) one
+        ∙ elim (cases_Bool (endpoint_named b 0 == e)) [ inl its ↦ rw its refl | inr other ↦ rw other refl ]
+
+names-one : (ffa : Ffa) (b : Versioned) → receiver_count b ≡ 1 → IsNaming b (array_place b) → HasNames ffa b
+names-one served.V1_1 b one its = tt
+names-one served.V1_2 b one its = record {
+  each = λ i inside. subst (IsNaming b) (sym (ap (access_place b) (let first : i ≡ 0 = omega (arith, inside, one) in first) ∙ first-place b)) its;
+  distinct = λ i j before inside. absurd (omega (arith, before, inside, one));
+}
+
+with_rest : (ffa : Ffa) (version : Version) (e : ℕ) (d : RetrieveDesc) (rest : List ℕ) → Fitting (retrieve_heading d) → e < 2 ^ 16
+    → Retrieve ffa e (in_version version (heading_bytes version (retrieve_heading d) ++ (entry_bytes version e (asked_of d) 0 ++ rest))) d
+with_rest ffa version e d rest fits small =
     let front = heading_bytes version (retrieve_heading d) in
     let tail = entry_bytes version e (asked_of d) 0 ++ rest in
     let b = in_version version (front ++ tail) in
@@ -52,26 +101,28 @@ with_rest version e d rest fits small =
     let room : accesses_size version 1 ≤ length tail = omega (arith, length-append (entry_bytes version e (asked_of d) 0) rest, length-entry version e (asked_of d) 0) in
     let place : length front ≡ array_place b = length-heading version (retrieve_heading d) ∙ sym says.array in
     let entry = entry_at version front rest (array_place b) e (asked_of d) 0 place small (omega arith) in
-    let asks = subst (λ (p : ℕ). Asked p d.level d.exec) (sym entry.permissions) (asked d.level d.exec) in
+    let own = own-first ffa e b says.count in
+    let asks = subst (λ (p : ℕ). Asked p d.level d.exec) (sym (ap (permissions_field b.bytes) own ∙ entry.permissions)) (asked d.level d.exec) in
     record {
       header = is_header_of version (retrieve_heading d) tail fits room;
       attributes = inl says.attributes;
-      one = says.count;
-      caller = entry.endpoint;
+      count = counted ffa (flags_field b) (receiver_count b) says.count;
+      caller = ap (endpoint_field b.bytes) own ∙ entry.endpoint;
       known_exec = asks.known;
       no_more = asks.no_more;
-      access_flags = entry.flags;
-      composite = entry.composite;
-      access_reserved = entry.reserved;
+      access_flags = ap (access_flags_field b.bytes) own ∙ entry.flags;
+      composite = ap (composite_field b.bytes) own ∙ entry.composite;
+      access_reserved = ap (is_access_rest_zero version b.bytes) own ∙ entry.reserved;
+      names = names-one ffa b says.count (record { flags = omega (arith, entry.flags); composite = entry.composite; reserved = entry.reserved });
       sender = sym says.sender;
       handle = sym says.handle;
       tag = sym says.tag;
-      kind = says.flags;
+      kind = flags-asked ffa d.kind (flags_field b) says.flags;
       level = asks.data_bits;
       exec = asks.exec_bits;
     }
 
-pub retrieves : (version : Version) (e : ℕ) (d : RetrieveDesc) → Fitting (retrieve_heading d) → e < 2 ^ 16
-    → Retrieve e (in_version version (heading_bytes version (retrieve_heading d) ++ entry_bytes version e (asked_of d) 0)) d
-retrieves version e d fits small =
-    subst (λ (l : List ℕ). Retrieve e (in_version version (heading_bytes version (retrieve_heading d) ++ l)) d) (append-nil _) (with_rest version e d [] fits small)
+pub retrieves : (ffa : Ffa) (version : Version) (e : ℕ) (d : RetrieveDesc) → Fitting (retrieve_heading d) → e < 2 ^ 16
+    → Retrieve ffa e (in_version version (heading_bytes version (retrieve_heading d) ++ entry_bytes version e (asked_of d) 0)) d
+retrieves ffa version e d fits small =
+    subst (λ (l : List ℕ). Retrieve ffa e (in_version version (heading_bytes version (retrieve_heading d) ++ l)) d) (append-nil _) (with_rest ffa version e d [] fits small)

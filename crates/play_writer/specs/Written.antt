@@ -24,7 +24,7 @@ use Rattle.ffa_model.specs.declared.manifest.Ffa.{Ffa}
 -- bytes that a caller of this version says this with, on a machine of any FF-A
 abbrev pub IsDescriptor : Version → DescriptorContents → List ℕ → Type 0
 IsDescriptor version (Send kind desc) bytes = (ffa : Ffa) → IsSend ffa kind (in_version version bytes) (send_record desc)
-IsDescriptor version (Retrieve desc receiver) bytes = IsRetrieve receiver.0 (in_version version bytes) desc
+IsDescriptor version (Retrieve desc receiver) bytes = (ffa : Ffa) → IsRetrieve ffa receiver.0 (in_version version bytes) desc
 IsDescriptor version (Relinquish desc) bytes = IsRelinquish bytes desc
 
 -- why there are none

@@ -2,6 +2,7 @@
 //! Retrieve descriptors.
 
 ghost use Rattle.std.specs.Prelude.{◌≡◌, ◌+◌, ◌*◌, take, drop};
+ghost use Rattle.ffa_model.specs.declared.manifest.Ffa.{Ffa};
 ghost use Rattle.ffa_model.specs.DescriptorPlaces.{accesses_size, in_version, header_size, data_code, exec_code, kind_code};
 ghost use Rattle.ffa_model.specs.RetrieveDescriptor.{Retrieve};
 
@@ -43,7 +44,7 @@ pub fn write_retrieve(
     page: &mut [u8; 4096],
 ) -> u32
     ensures size { result ≡ header_size version + accesses_size version 1 }
-    ensures read { Retrieve receiver.0 (in_version version (take result page.new)) desc.now }
+    ensures read { (ffa : Ffa) → Retrieve ffa receiver.0 (in_version version (take result page.new)) desc.now }
     ensures rest { drop result page.new ≡ drop result page.old }
 {
     let RetrieveDesc {

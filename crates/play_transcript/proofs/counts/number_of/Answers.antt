@@ -7,4 +7,4 @@ pub returns-clause-some : goal.returns-clause-some
 returns-clause-some c = subst (λ number. IfSome number (λ n. 1 ≤ n)) (sym c.check_number.ensures.number) (number-some _ c.args.refusal)
 
 pub returns-clause-few : goal.returns-clause-few
-returns-clause-few c = subst (λ number. IfSome number (λ n. n ≤ 15)) (sym c.check_number.ensures.number) (number-few _ c.args.refusal)
+returns-clause-few c = subst (λ number. IfSome number (λ n. n ≤ 16)) (sym c.check_number.ensures.number) (number-few _ c.args.refusal)

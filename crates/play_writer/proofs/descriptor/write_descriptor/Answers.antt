@@ -9,3 +9,6 @@ returns-in-Send-clause-inside c =
 
 pub returns-in-Send-clause-said : goal.returns-in-Send-clause-said
 returns-in-Send-clause-said c = rw c.in-Send.is c.write_send.ensures.read
+
+pub returns-in-Retrieve-clause-said : goal.returns-in-Retrieve-clause-said
+returns-in-Retrieve-clause-said c = rw c.in-Retrieve.is c.write_retrieve.ensures.read

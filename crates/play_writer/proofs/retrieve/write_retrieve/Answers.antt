@@ -22,7 +22,7 @@ returns c =
     wrote_to _ _ _ _ _ (omega arith) (subst (λ (p : ℕ). Wrote old (heading_bytes version (retrieve_heading d) ++ entry_bytes version c.args.receiver.0 p 0) (c.header_size-place.result + accesses_size version 1) c.write_access.new.page) c.permissions_of.ensures (c.write_access.ensures.bytes old _ heading)) in
     record {
       size = omega arith;
-      read = subst (λ (l : List ℕ). Retrieve c.args.receiver.0 (in_version version l) d) (sym (front_of _ _ _ _ all))
-          (retrieves version c.args.receiver.0 d (record { sender = omega arith; attributes = omega arith; flags = few; handle = omega arith; tag = omega arith; count = omega arith }) (omega arith));
+      read = λ ffa. subst (λ (l : List ℕ). Retrieve ffa c.args.receiver.0 (in_version version l) d) (sym (front_of _ _ _ _ all))
+          (retrieves ffa version c.args.receiver.0 d (record { sender = omega arith; attributes = omega arith; flags = few; handle = omega arith; tag = omega arith; count = omega arith }) (omega arith));
       rest = rest_of _ _ _ _ all;
     }
