@@ -45,7 +45,7 @@ extern "C" {
 
 /* The number of these declarations, raised by each change that a caller has to know of. Who loads the library while a
  * program runs compares it with gorseplumb_declarations, which answers the number that the library was built by. */
-#define GORSEPLUMB_DECLARATIONS 12
+#define GORSEPLUMB_DECLARATIONS 13
 
 uint32_t gorseplumb_declarations(void);
 
@@ -180,7 +180,8 @@ struct gorseplumb_region {
 struct gorseplumb_endpoint {
     uint32_t version;    /* the form of its descriptors: 0 is that of FF-A 1.1, 1 the compact one. 2 is that of FF-A 1.2,
                           * and needs `ffa` 1. With `ffa` 1 an endpoint may change its form by FFA_VERSION */
-    uint32_t properties; /* as in a manifest's text: 1 receives direct requests, 2 sends them, 4 indirect messages, 8 notifications */
+    uint32_t properties; /* as in a manifest's text: 1 receives direct requests, 2 sends them, 4 indirect messages, 8 notifications.
+                          * A partition with `version` 2 may also have 0x200 and 0x400: receives and sends second direct requests */
     uint8_t uuid[16];
     uint32_t region_count; /* of `regions`, from the first on; what stands behind is not read */
     struct gorseplumb_region regions[GORSEPLUMB_MOST_REGIONS];
@@ -220,7 +221,7 @@ enum gorseplumb_answer {
     GORSEPLUMB_MANIFEST_RAM_BLOCKS = 7,      /* not from 1 to GORSEPLUMB_MOST_BLOCKS, or not in one GiB */
     GORSEPLUMB_MANIFEST_ENDPOINT_COUNT = 8,  /* not from 1 to 8 */
     GORSEPLUMB_MANIFEST_UUID = 9,            /* can't be read, zeros for a partition, or other than zeros for the normal world */
-    GORSEPLUMB_MANIFEST_PROPERTY = 10,       /* not from 0 to 15, or the normal world is to receive */
+    GORSEPLUMB_MANIFEST_PROPERTY = 10,       /* a bit that the endpoint may not have, or the normal world is to receive */
     GORSEPLUMB_MANIFEST_REGION_COUNT = 11,   /* not from 1 to 16 */
     GORSEPLUMB_MANIFEST_REGION_OUTSIDE = 12, /* not whole pages in RAM that are none of the tables', or no page */
     GORSEPLUMB_MANIFEST_REGION_OVERLAP = 13, /* has a page of a region before it */
@@ -476,7 +477,7 @@ enum gorseplumb_check {
     GORSEPLUMB_CHECK_RECEIVER_UNKNOWN = 6, /* no endpoint has the receiver's identifier */
     GORSEPLUMB_CHECK_RECEIVER_IS_CALLER = 7, /* the receiver is the caller */
     GORSEPLUMB_CHECK_NOT_NORMAL_WORLD = 8, /* the caller is not the normal world */
-    GORSEPLUMB_CHECK_CONTEXT_UNKNOWN = 9, /* the execution context is not 0 */
+    GORSEPLUMB_CHECK_CONTEXT_UNKNOWN = 9, /* the endpoint does not have this execution context */
     GORSEPLUMB_CHECK_RX_FULL = 10, /* the caller's RX is full */
     GORSEPLUMB_CHECK_UUID_UNKNOWN = 11, /* no partition has the UUID */
     GORSEPLUMB_CHECK_BUFFERS_MAPPED = 12, /* the caller already has RX and TX */
@@ -508,7 +509,7 @@ enum gorseplumb_check {
     GORSEPLUMB_CHECK_RECEIVER_RX_FULL = 38, /* the receiver's RX is full */
     GORSEPLUMB_CHECK_RECEIVER_RX_SMALL = 39, /* the message with its header is longer than the receiver's RX */
     GORSEPLUMB_CHECK_ENDPOINT_NOT_NORMAL_WORLD = 40, /* the endpoint is not the normal world */
-    GORSEPLUMB_CHECK_CONTEXT_COUNT = 41, /* the number of execution contexts is not 1 */
+    GORSEPLUMB_CHECK_CONTEXT_COUNT = 41, /* the normal world cannot have this number of execution contexts */
     GORSEPLUMB_CHECK_BITMAPS_EXIST = 42, /* the normal world already has notification bitmaps */
     GORSEPLUMB_CHECK_BITMAPS_MISSING = 43, /* the endpoint has no notification bitmaps */
     GORSEPLUMB_CHECK_BITS_PENDING = 44, /* a notification bit of the normal world is pending */
@@ -543,7 +544,9 @@ enum gorseplumb_check {
     GORSEPLUMB_CHECK_ZEROS_NOT_ALLOWED = 73, /* zeroing is requested, but the caller does not hold a lend with write access */
     GORSEPLUMB_CHECK_NOT_THE_SENDERS = 74, /* no open transaction from the caller has the handle */
     GORSEPLUMB_CHECK_STILL_HELD = 75, /* a receiver still holds the transaction */
-    GORSEPLUMB_CHECK_WORLDS_MIXED = 76 /* secure pages are sent to the normal world, or together with non-secure pages */
+    GORSEPLUMB_CHECK_WORLDS_MIXED = 76, /* secure pages are sent to the normal world, or together with non-secure pages */
+    GORSEPLUMB_CHECK_RECEIVERS_DIFFER = 77, /* the endpoints in the descriptor are not the transaction's receivers */
+    GORSEPLUMB_CHECK_BUFFERS_NEEDED = 78 /* the call needs RX and TX, and the caller has none */
 };
 
 /* The conditions of a descriptor. Each comment says what is wrong if the bytes break it, in the words of
@@ -561,8 +564,8 @@ enum gorseplumb_flaw {
     GORSEPLUMB_FLAW_SEND_NO_RECEIVER = 10, /* there is no receiver */
     GORSEPLUMB_FLAW_SEND_MANY_RECEIVERS = 11, /* there are more receivers than this call allows */
     GORSEPLUMB_FLAW_ACCESS_PERMISSIONS = 12, /* this call does not allow these permissions */
-    GORSEPLUMB_FLAW_ACCESS_FLAGS = 13, /* the flags of the access descriptor are not 0 */
-    GORSEPLUMB_FLAW_ACCESS_OTHER_COMPOSITE = 14, /* the access descriptor refers to a different composite than the first one */
+    GORSEPLUMB_FLAW_ACCESS_FLAGS = 13, /* the access descriptor has a flag that this call does not allow */
+    GORSEPLUMB_FLAW_ACCESS_OTHER_COMPOSITE = 14, /* the access descriptor refers to a different composite than this call allows */
     GORSEPLUMB_FLAW_ACCESS_RESERVED = 15, /* reserved bytes of the access descriptor are not 0 */
     GORSEPLUMB_FLAW_ACCESS_RECEIVER_IS_SENDER = 16, /* the access descriptor names the sender */
     GORSEPLUMB_FLAW_ACCESS_RECEIVER_TWICE = 17, /* the access descriptor names the same receiver as an earlier one */
@@ -580,18 +583,19 @@ enum gorseplumb_flaw {
     GORSEPLUMB_FLAW_RANGE_RESERVED = 29, /* reserved bytes of the range are not 0 */
     GORSEPLUMB_FLAW_RANGE_OVERLAP = 30, /* the range overlaps an earlier range */
     GORSEPLUMB_FLAW_RETRIEVE_ATTRIBUTES = 31, /* the memory attributes are neither 0 nor normal memory */
-    GORSEPLUMB_FLAW_RETRIEVE_FLAGS = 32, /* a flag other than the transaction type is set */
-    GORSEPLUMB_FLAW_RETRIEVE_ACCESS_COUNT = 33, /* the number of access descriptors is not 1 */
-    GORSEPLUMB_FLAW_RETRIEVE_RECEIVER_IS_ANOTHER = 34, /* the access descriptor does not name the caller */
+    GORSEPLUMB_FLAW_RETRIEVE_FLAGS = 32, /* a flag is set that this call does not allow */
+    GORSEPLUMB_FLAW_RETRIEVE_ACCESS_COUNT = 33, /* the number of access descriptors is not 1, or in FF-A 1.2 not one to four */
+    GORSEPLUMB_FLAW_RETRIEVE_RECEIVER_IS_ANOTHER = 34, /* no access descriptor names the caller */
     GORSEPLUMB_FLAW_RETRIEVE_DATA_PERMISSION = 35, /* the data permission has a reserved value */
     GORSEPLUMB_FLAW_RETRIEVE_INSTRUCTION_PERMISSION = 36, /* the instruction permission has a reserved value */
     GORSEPLUMB_FLAW_RETRIEVE_PERMISSIONS_RESERVED = 37, /* reserved bits of the permissions are not 0 */
     GORSEPLUMB_FLAW_RETRIEVE_ACCESS_FLAGS = 38, /* the flags of the access descriptor are not 0 */
     GORSEPLUMB_FLAW_RETRIEVE_COMPOSITE_TOLD = 39, /* a composite is given */
     GORSEPLUMB_FLAW_RETRIEVE_ACCESS_RESERVED = 40, /* reserved bytes of the access descriptor are not 0 */
-    GORSEPLUMB_FLAW_RELINQUISH_SHORT = 41, /* the descriptor is shorter than 18 bytes */
-    GORSEPLUMB_FLAW_RELINQUISH_FLAGS = 42, /* a flag other than bit 0 is set */
-    GORSEPLUMB_FLAW_RELINQUISH_ENDPOINT_COUNT = 43 /* the number of endpoints is not 1 */
+    GORSEPLUMB_FLAW_RETRIEVE_NOT_ZERO = 41, /* a field of a hypervisor's retrieve is not 0, and is not the handle */
+    GORSEPLUMB_FLAW_RELINQUISH_SHORT = 42, /* the descriptor is shorter than 18 bytes */
+    GORSEPLUMB_FLAW_RELINQUISH_FLAGS = 43, /* a flag other than bit 0 is set */
+    GORSEPLUMB_FLAW_RELINQUISH_ENDPOINT_COUNT = 44 /* the number of endpoints is not 1 */
 };
 
 /* The subject of a check that fails, in a reason. */

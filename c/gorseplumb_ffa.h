@@ -70,11 +70,13 @@ enum gorseplumb_error {
 };
 
 /* What an endpoint takes part in: bits of `properties` in a struct gorseplumb_endpoint (DEN0077A, 6.2.2). The normal
- * world has neither of the two that receive. */
+ * world receives nothing. Only a partition with GORSEPLUMB_VERSION_1_2 receives or sends second direct requests. */
 #define GORSEPLUMB_RECEIVES_DIRECT_REQUESTS 1
 #define GORSEPLUMB_SENDS_DIRECT_REQUESTS 2
 #define GORSEPLUMB_INDIRECT_MESSAGES 4
 #define GORSEPLUMB_RECEIVES_NOTIFICATIONS 8
+#define GORSEPLUMB_RECEIVES_SECOND_REQUESTS 0x200
+#define GORSEPLUMB_SENDS_SECOND_REQUESTS 0x400
 
 /* The form of an endpoint's descriptors: `version` in a struct gorseplumb_endpoint. That of FF-A 1.2 has access descriptors of
  * 32 bytes in place of 16, and needs a machine with `ffa` GORSEPLUMB_FFA_1_2. */

@@ -8,7 +8,7 @@
 
 #define CHECK(name) GORSEPLUMB_CHECK_##name
 
-enum { MOST_CHECKS = 15 };
+enum { MOST_CHECKS = 16 };
 
 /* What the identifier of a 64-bit form has beside that of the 32-bit form. */
 #define WIDE UINT32_C(0x40000000)
@@ -39,7 +39,8 @@ static const struct function functions[] = {
     {"FFA_RXTX_MAP", 0x84000066, true, {CHECK(BUFFERS_MAPPED), CHECK(BUFFER_PAGE_COUNT), CHECK(TX_MISPLACED),
       CHECK(RX_MISPLACED), CHECK(BUFFERS_OVERLAP), CHECK(TX_UNUSABLE), CHECK(RX_UNUSABLE)}},
     {"FFA_RXTX_UNMAP", 0x84000067, false, {CHECK(ENDPOINT_NOT_ZERO), CHECK(BUFFERS_MISSING)}},
-    {"FFA_PARTITION_INFO_GET", 0x84000068, false, {CHECK(UUID_UNKNOWN), CHECK(BUFFERS_MISSING), CHECK(RX_FULL)}},
+    {"FFA_PARTITION_INFO_GET", 0x84000068, false, {CHECK(UUID_UNKNOWN), CHECK(BUFFERS_MISSING), CHECK(RX_FULL),
+      CHECK(BUFFERS_NEEDED)}},
     {"FFA_ID_GET", 0x84000069, false, {0}},
     {"FFA_MSG_WAIT", 0x8400006B, false, {CHECK(NOT_RUN)}},
     {"FFA_YIELD", 0x8400006C, false, {CHECK(NOBODY_TO_YIELD_TO)}},
@@ -56,7 +57,8 @@ static const struct function functions[] = {
     {"FFA_MEM_RETRIEVE_REQ", 0x84000074, true, {CHECK(BUFFERS_MISSING), CHECK(FRAGMENTED), CHECK(DESCRIPTOR_TOO_LONG),
       CHECK(BUFFER_ADDRESS_GIVEN), CHECK(BUFFER_PAGES_GIVEN), CHECK(DESCRIPTOR_MALFORMED), CHECK(HANDLE_UNKNOWN),
       CHECK(NOT_RECEIVER), CHECK(TRANSACTION_SENDER_DIFFERS), CHECK(TAG_DIFFERS), CHECK(KIND_DIFFERS),
-      CHECK(ALREADY_RETRIEVED), CHECK(RIGHT_TOO_MUCH), CHECK(RX_FULL)}},
+      CHECK(ALREADY_RETRIEVED), CHECK(RIGHT_TOO_MUCH), CHECK(RX_FULL), CHECK(RECEIVERS_DIFFER),
+      CHECK(NOT_THE_SENDERS)}},
     {"FFA_MEM_RETRIEVE_RESP", 0x84000075, false, {CHECK(FUNCTION_UNKNOWN)}},
     {"FFA_MEM_RELINQUISH", 0x84000076, false, {CHECK(BUFFERS_MISSING), CHECK(DESCRIPTOR_MALFORMED),
       CHECK(ENDPOINT_IS_ANOTHER), CHECK(NOT_OFFERED), CHECK(NOT_HELD), CHECK(ZEROS_NOT_ALLOWED)}},
@@ -111,7 +113,7 @@ static const char check_names[] =
     "no endpoint has the receiver's identifier\0"
     "the receiver is the caller\0"
     "the caller is not the normal world\0"
-    "the execution context is not 0\0"
+    "the endpoint does not have this execution context\0"
     "the caller's RX is full\0"
     "no partition has the UUID\0"
     "the caller already has RX and TX\0"
@@ -143,7 +145,7 @@ static const char check_names[] =
     "the receiver's RX is full\0"
     "the message with its header is longer than the receiver's RX\0"
     "the endpoint is not the normal world\0"
-    "the number of execution contexts is not 1\0"
+    "the normal world cannot have this number of execution contexts\0"
     "the normal world already has notification bitmaps\0"
     "the endpoint has no notification bitmaps\0"
     "a notification bit of the normal world is pending\0"
@@ -178,7 +180,9 @@ static const char check_names[] =
     "zeroing is requested, but the caller does not hold a lend with write access\0"
     "no open transaction from the caller has the handle\0"
     "a receiver still holds the transaction\0"
-    "secure pages are sent to the normal world, or together with non-secure pages\0";
+    "secure pages are sent to the normal world, or together with non-secure pages\0"
+    "the endpoints in the descriptor are not the transaction's receivers\0"
+    "the call needs RX and TX, and the caller has none\0";
 
 static const char flaw_names[] =
     "the descriptor is shorter than its header\0"
@@ -193,8 +197,8 @@ static const char flaw_names[] =
     "there is no receiver\0"
     "there are more receivers than this call allows\0"
     "this call does not allow these permissions\0"
-    "the flags of the access descriptor are not 0\0"
-    "the access descriptor refers to a different composite than the first one\0"
+    "the access descriptor has a flag that this call does not allow\0"
+    "the access descriptor refers to a different composite than this call allows\0"
     "reserved bytes of the access descriptor are not 0\0"
     "the access descriptor names the sender\0"
     "the access descriptor names the same receiver as an earlier one\0"
@@ -212,15 +216,16 @@ static const char flaw_names[] =
     "reserved bytes of the range are not 0\0"
     "the range overlaps an earlier range\0"
     "the memory attributes are neither 0 nor normal memory\0"
-    "a flag other than the transaction type is set\0"
-    "the number of access descriptors is not 1\0"
-    "the access descriptor does not name the caller\0"
+    "a flag is set that this call does not allow\0"
+    "the number of access descriptors is not 1, or in FF-A 1.2 not one to four\0"
+    "no access descriptor names the caller\0"
     "the data permission has a reserved value\0"
     "the instruction permission has a reserved value\0"
     "reserved bits of the permissions are not 0\0"
     "the flags of the access descriptor are not 0\0"
     "a composite is given\0"
     "reserved bytes of the access descriptor are not 0\0"
+    "a field of a hypervisor's retrieve is not 0, and is not the handle\0"
     "the descriptor is shorter than 18 bytes\0"
     "a flag other than bit 0 is set\0"
     "the number of endpoints is not 1\0";

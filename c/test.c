@@ -365,6 +365,13 @@ static void numbers(void) {
     /* Of FF-A 1.2 an endpoint is on a machine of FF-A 1.2 alone; there is no other version. */
     REFUSED(GORSEPLUMB_OK, manifest.endpoints[1].version = 2, manifest.ffa = GORSEPLUMB_FFA_1_2);
     REFUSED(GORSEPLUMB_MANIFEST_VERSION, manifest.endpoints[1].version = 2);
+    /* Second direct requests are of FF-A 1.2. */
+    REFUSED(GORSEPLUMB_OK, manifest.endpoints[1].version = 2, manifest.endpoints[1].properties = 0x60F, manifest.ffa = GORSEPLUMB_FFA_1_2);
+    REFUSED(GORSEPLUMB_MANIFEST_PROPERTY, manifest.endpoints[1].version = 2, manifest.endpoints[1].properties = 0x10, manifest.ffa = GORSEPLUMB_FFA_1_2);
+    REFUSED(GORSEPLUMB_MANIFEST_PROPERTY, manifest.endpoints[1].properties = 0x200, manifest.ffa = GORSEPLUMB_FFA_1_2);
+    REFUSED(GORSEPLUMB_MANIFEST_PROPERTY, manifest.endpoints[0].version = 2, manifest.endpoints[0].properties = 0x400, manifest.ffa = GORSEPLUMB_FFA_1_2);
+    REFUSED(GORSEPLUMB_MANIFEST_PROPERTY, manifest.endpoints[1].properties = 0x200);
+    REFUSED(GORSEPLUMB_MANIFEST_VERSION, manifest.endpoints[1].version = 2, manifest.endpoints[1].properties = 0x200);
     REFUSED(GORSEPLUMB_MANIFEST_VERSION, manifest.endpoints[1].version = 3, manifest.ffa = GORSEPLUMB_FFA_1_2);
     /* What tells of no machine at all comes before what makes none. */
     REFUSED(GORSEPLUMB_MANIFEST_VERSION, manifest.endpoints[1].version = 3, manifest.ram_base = 1);

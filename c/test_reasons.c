@@ -338,7 +338,7 @@ static void names(void) {
               is(gorseplumb_fault_name(none[i]), ""));
         CHECK(none[i] == 0 || is(gorseplumb_answer_name(none[i]), ""));
     }
-    CHECK(is(gorseplumb_check_name(GORSEPLUMB_CHECK_WORLDS_MIXED + 1), ""));
+    CHECK(is(gorseplumb_check_name(GORSEPLUMB_CHECK_BUFFERS_NEEDED + 1), ""));
     CHECK(is(gorseplumb_answer_name(GORSEPLUMB_MANIFEST_TABLES_OUTSIDE + 1), ""));
     CHECK(is(gorseplumb_fault_name(GORSEPLUMB_FAULT_OUTSIDE_RAM + 1), ""));
     CHECK(is(gorseplumb_flaw_name(GORSEPLUMB_FLAW_RELINQUISH_ENDPOINT_COUNT + 1), ""));

@@ -124,6 +124,7 @@ static void serves_1_2(void) {
     CHECK(gorseplumb_handle_of(shares(1, GORSEPLUMB_NORMAL_WORLD, NORMAL_PAGE + 0x1000, 0)) == gorseplumb_of_halves(1, first));
     CHECK(gorseplumb_handle_of(shares(1, second, SECURE_PAGE, 0)) == gorseplumb_of_halves(2, first));
     leave();
+    CHECK(properties(GORSEPLUMB_FFA_MEM_RETRIEVE_REQ) == 6 && properties(GORSEPLUMB_FFA_MEM_RETRIEVE_REQ_64) == 6);
     CHECK(attributes(0, first, gorseplumb_of_halves(1, first)) == 0x6F);
     enter(2);
     CHECK(attributes(2, first, gorseplumb_of_halves(2, first)) == 0x2F);

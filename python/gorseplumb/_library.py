@@ -13,7 +13,7 @@ from typing import Any, Callable
 
 from .errors import LibraryError
 
-DECLARATIONS = 12
+DECLARATIONS = 13
 """The number of the declarations that this file has."""
 
 MOST_REGIONS = 16

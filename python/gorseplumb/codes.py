@@ -174,12 +174,15 @@ _RIGHTS = {Right.NONE: "---", Right.RO: "r--", Right.RW: "rw-", Right.ROX: "r-x"
 
 
 class Properties(IntFlag):
-    """What a manifest says of an endpoint. The normal world has neither the first nor the last."""
+    """What a manifest says of an endpoint. The normal world has neither `RECEIVES_REQUESTS` nor `NOTIFICATIONS`. Only a
+    partition of `Form.FFA_1_2` has either of the last two."""
 
     RECEIVES_REQUESTS = 1
     SENDS_REQUESTS = 2
     INDIRECT_MESSAGES = 4
     NOTIFICATIONS = 8
+    RECEIVES_SECOND_REQUESTS = 0x200
+    SENDS_SECOND_REQUESTS = 0x400
 
     __repr__ = by_name
 

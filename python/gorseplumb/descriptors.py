@@ -20,6 +20,7 @@ MOST_RANGES = 64
 ENTRY_SIZE = 16
 """The size of a composite without its ranges, and of a range."""
 
+_NAMES_ONE = 1 << 10
 _HEADER = struct.Struct("<HHIQQII")
 _REST = struct.Struct("<IIQ")
 _ACCESS = struct.Struct("<HBBI")
@@ -167,22 +168,18 @@ class Retrieve:
         return data
 
     @classmethod
-    def from_bytes(cls, data: bytes, endpoint: int, form: Form = Form.FFA_1_1) -> Retrieve:
-        """What a retrieve descriptor of this endpoint says."""
+    def from_bytes(cls, data: bytes, endpoint: int, form: Form = Form.FFA_1_1, ffa: Ffa | None = None) -> Retrieve:
+        """What a retrieve descriptor of this endpoint says to a machine that serves this version of FF-A. The default is as
+        of an offer. To a machine of FF-A 1.2 it may name the other receivers too, of which only the caller is told here."""
         header = _read_header(data, form)
-        _require(header.attributes in (0, NORMAL_MEMORY), Flaw.RETRIEVE_ATTRIBUTES)
-        _require(header.flags & ~0x18 == 0, Flaw.RETRIEVE_FLAGS)
-        _require(header.entries == 1, Flaw.RETRIEVE_ACCESS_COUNT)
-        access = _read_access(data, header)
-        _require(access.endpoint == endpoint, Flaw.RETRIEVE_RECEIVER_IS_ANOTHER)
-        _require(access.permissions & 3 != 3, Flaw.RETRIEVE_DATA_PERMISSION)
-        _require(access.permissions >> 2 & 3 != 3, Flaw.RETRIEVE_INSTRUCTION_PERMISSION)
-        _require(access.permissions >> 4 == 0, Flaw.RETRIEVE_PERMISSIONS_RESERVED)
-        _require(access.flags == 0, Flaw.RETRIEVE_ACCESS_FLAGS)
-        _require(access.composite == 0, Flaw.RETRIEVE_COMPOSITE_TOLD)
-        _require(access.is_rest_zero, Flaw.RETRIEVE_ACCESS_RESERVED)
-        kind = Kind(header.flags >> 3) if header.flags else None
-        return cls(header.sender, header.handle, access.receiver, header.tag, kind)
+        served = _served(form, ffa)
+        flags = _check_retrieve(served, header)
+        named = [_read_access(data, header, index) for index in range(header.entries)]
+        own = next((index for index, it in enumerate(named) if it.endpoint == endpoint), 0)
+        _check_asked(endpoint, named[own], own)
+        if served is Ffa.V1_2:
+            _check_names(named)
+        return cls(header.sender, header.handle, named[own].receiver, header.tag, Kind(flags >> 3) if flags else None)
 
     def operations(self, tx: int, form: Form = Form.FFA_1_1, *, checked: bool = True) -> list[Operation]:
         """The stores that write it to TX, and its call."""
@@ -418,6 +415,34 @@ def _check_send(ffa: Ffa, kind: Kind, header: _Header) -> int:
     _require(header.entries >= 1, Flaw.SEND_NO_RECEIVER)
     _require(header.entries <= (1 if kind is Kind.DONATE else MOST_RECEIVERS), Flaw.SEND_MANY_RECEIVERS)
     return flags
+
+
+def _check_retrieve(ffa: Ffa, header: _Header) -> int:
+    """The flags of a retrieve, without the one that says to a machine of FF-A 1.2 that it names the caller alone."""
+    names_one = ffa is Ffa.V1_1 or header.flags & _NAMES_ONE != 0
+    flags = header.flags & ~_NAMES_ONE if ffa is Ffa.V1_2 else header.flags
+    _require(header.attributes in (0, NORMAL_MEMORY), Flaw.RETRIEVE_ATTRIBUTES)
+    _require(flags & ~0x18 == 0, Flaw.RETRIEVE_FLAGS)
+    _require(1 <= header.entries <= (1 if names_one else MOST_RECEIVERS), Flaw.RETRIEVE_ACCESS_COUNT)
+    return flags
+
+
+def _check_asked(endpoint: int, access: _Access, index: int) -> None:
+    _require(access.endpoint == endpoint, Flaw.RETRIEVE_RECEIVER_IS_ANOTHER, index)
+    _require(access.permissions & 3 != 3, Flaw.RETRIEVE_DATA_PERMISSION, index)
+    _require(access.permissions >> 2 & 3 != 3, Flaw.RETRIEVE_INSTRUCTION_PERMISSION, index)
+    _require(access.permissions >> 4 == 0, Flaw.RETRIEVE_PERMISSIONS_RESERVED, index)
+    _require(access.flags == 0, Flaw.RETRIEVE_ACCESS_FLAGS, index)
+    _require(access.composite == 0, Flaw.RETRIEVE_COMPOSITE_TOLD, index)
+    _require(access.is_rest_zero, Flaw.RETRIEVE_ACCESS_RESERVED, index)
+
+
+def _check_names(named: Sequence[_Access]) -> None:
+    for index, access in enumerate(named):
+        _require(access.flags <= 1, Flaw.ACCESS_FLAGS, index)
+        _require(access.composite == 0, Flaw.ACCESS_OTHER_COMPOSITE, index)
+        _require(access.is_rest_zero, Flaw.ACCESS_RESERVED, index)
+        _require(all(access.endpoint != it.endpoint for it in named[:index]), Flaw.ACCESS_RECEIVER_TWICE, index)
 
 
 def _read_receiver(

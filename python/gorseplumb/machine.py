@@ -291,7 +291,7 @@ class Machine(Questions):
             FFA_RXTX_UNMAP                   [endpoint]
             FFA_PARTITION_INFO_GET           [uuid], [count_only]
             FFA_ID_GET                       -
-            FFA_MSG_WAIT                     [partition], [context]
+            FFA_MSG_WAIT                     [partition], [context], [flags]
             FFA_YIELD                        [partition], [context]
             FFA_RUN                          partition, [context]
             FFA_MSG_SEND_DIRECT_REQ*         sender, receiver, [flags], [payload0] .. [payload4]

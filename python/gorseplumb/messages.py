@@ -23,6 +23,8 @@ _COMPACT_INFORMATION = struct.Struct("<HHI")
 _NIL = uuid.UUID(int=0)
 AARCH64 = 1 << 8
 """The bit of a partition's information that says that it runs in AArch64."""
+_PROPERTIES = {Form.FFA_1_1: 15, Form.COMPACT: 7, Form.FFA_1_2: 0x60F}
+"""The properties that a caller of each form is told."""
 
 
 @dataclass(frozen=True, slots=True)
@@ -108,9 +110,9 @@ class PartitionInfo:
         """The descriptor, as the machine writes it."""
         check_member("form", form, Form)
         if form is Form.COMPACT:
-            return _COMPACT_INFORMATION.pack(self.identifier, self.contexts, self.properties & 7)
+            return _COMPACT_INFORMATION.pack(self.identifier, self.contexts, self.properties & _PROPERTIES[form])
         told = (self.uuid or _NIL).bytes
-        return _INFORMATION.pack(self.identifier, self.contexts, self.properties | AARCH64, told)
+        return _INFORMATION.pack(self.identifier, self.contexts, self.properties & _PROPERTIES[form] | AARCH64, told)
 
     @classmethod
     def from_bytes(cls, data: bytes, form: Form = Form.FFA_1_1) -> PartitionInfo:
@@ -119,10 +121,10 @@ class PartitionInfo:
             raise ValueError(f"a partition's information has {information_size(form)} bytes, and there are {len(data)}")
         if form is Form.COMPACT:
             identifier, contexts, bits = _COMPACT_INFORMATION.unpack_from(data)
-            return cls(identifier, Properties(bits & 7), None, contexts)
+            return cls(identifier, Properties(bits & _PROPERTIES[form]), None, contexts)
         identifier, contexts, bits, told = _INFORMATION.unpack_from(data)
         named = uuid.UUID(bytes=told)
-        return cls(identifier, Properties(bits & 15), named if named != _NIL else None, contexts)
+        return cls(identifier, Properties(bits & _PROPERTIES[form]), named if named != _NIL else None, contexts)
 
 
 def information_size(form: Form) -> int:

@@ -250,6 +250,43 @@ def test_names_the_first_condition_that_a_retrieve_breaks(at: int, value: int, f
     assert wrong.value.flaw is Flaw[f"RETRIEVE_{flaw}"]
 
 
+# A retrieve of 8002 that also names 8003, in the form of FF-A 1.1: an access descriptor of 16 bytes more.
+TWO_NAMES = [
+    (5, 0x04, Flaw.RETRIEVE_ACCESS_COUNT, 0),
+    (28, 0x05, Flaw.HEADER_ARRAY_OUTSIDE, 0),
+    (64, 0x04, Flaw.RETRIEVE_RECEIVER_IS_ANOTHER, 0),
+    (67, 0x01, Flaw.RETRIEVE_ACCESS_FLAGS, 1),
+    (51, 0x02, Flaw.ACCESS_FLAGS, 0),
+    (52, 0x10, Flaw.ACCESS_OTHER_COMPOSITE, 0),
+    (56, 0x01, Flaw.ACCESS_RESERVED, 0),
+]
+
+
+def test_a_retrieve_of_ffa_1_2_may_name_other_receivers() -> None:
+    asked = Retrieve(0x8001, 1, Receiver(0x8002, RW))
+    one = asked.to_bytes()
+    data = bytearray(one[:48] + Retrieve(0x8001, 1, Receiver(0x8003)).to_bytes()[48:] + one[48:])
+    data[28], data[51] = 2, 1
+    assert Retrieve.from_bytes(bytes(data), 0x8002, ffa=Ffa.V1_2) == asked
+    with pytest.raises(MalformedDescriptor) as wrong:
+        Retrieve.from_bytes(bytes(data), 0x8002)
+    assert wrong.value.flaw is Flaw.RETRIEVE_ACCESS_COUNT
+    for at, value, flaw, index in TWO_NAMES:
+        bad = bytearray(data)
+        bad[at] = value
+        with pytest.raises(MalformedDescriptor) as wrong:
+            Retrieve.from_bytes(bytes(bad), 0x8002, ffa=Ffa.V1_2)
+        assert (wrong.value.flaw, wrong.value.index) == (flaw, index)
+    twice = bytearray(data)
+    twice[48], twice[51] = 2, 0
+    with pytest.raises(MalformedDescriptor) as wrong:
+        Retrieve.from_bytes(bytes(twice), 0x8002, ffa=Ffa.V1_2)
+    assert (wrong.value.flaw, wrong.value.index) == (Flaw.ACCESS_RECEIVER_TWICE, 1)
+    alone = bytearray(one)
+    alone[5] = 4
+    assert Retrieve.from_bytes(bytes(alone), 0x8002, ffa=Ffa.V1_2) == asked
+
+
 @pytest.mark.parametrize("data, flaw", [(b"\0" * 17, "SHORT"), (b"\2", "FLAGS"), (b"\1", "ENDPOINT_COUNT")])
 def test_names_the_first_condition_that_a_relinquish_breaks(data: bytes, flaw: str) -> None:
     whole = data if len(data) == 17 else b"\0" * 8 + data + b"\0" * 3 + b"\2\0\0\0" + b"\2\x80"

@@ -99,7 +99,8 @@ def test_names_the_member_that_is_meant() -> None:
         (
             lambda: Endpoint([region], odd[4]),
             "properties is a Properties, and not the str 'all': give Properties.RECEIVES_REQUESTS or "
-            "Properties.SENDS_REQUESTS or Properties.INDIRECT_MESSAGES or Properties.NOTIFICATIONS",
+            "Properties.SENDS_REQUESTS or Properties.INDIRECT_MESSAGES or Properties.NOTIFICATIONS or "
+            "Properties.RECEIVES_SECOND_REQUESTS or Properties.SENDS_SECOND_REQUESTS",
         ),
         (lambda: Endpoint([region], uuid=odd[5]), f"uuid is a UUID, and not the str '{odd[5]}': give UUID('{odd[5]}')"),
         (lambda: Region(odd[6], 16), "base is a number, and not the str '40010000': give 0x40010000"),

@@ -93,6 +93,7 @@ def test_what_is_told_is_read_again() -> None:
         (0xC400006F, 0x8001, 0, (1 << 64) - 1, 2, 0, 0, 0),
         (0x84000068, 0x33221100, 0x77665544, 0xBBAA9988, 0xFFEEDDCC, 1, 0, 0),
         (0x84000083, 0, 0, 0, 0, 0, 0, 0),
+        (0x8400006B, 0x80010000, 1, 0, 0, 0, 0, 0),
     ):
         name, *words = str(decode(x)).split(" ")
         texts = dict(word.split("=") for word in words)
@@ -128,7 +129,7 @@ def test_reads_what_an_answer_holds_by_the_call_that_it_answers() -> None:
     for_list = decode((Function.FFA_SUCCESS, 0, 2, 0x18, 0, 0, 0, 0), Function.FFA_PARTITION_INFO_GET)
     assert str(for_list) == "FFA_SUCCESS count=2 size=18"
     assert str(decode((Function.FFA_ERROR, 0, 0xFFFFFFFA, 0, 0, 0, 0, 0))) == "FFA_ERROR code=DENIED"
-    assert str(decode((0x8400006B, 0x80010000, 0, 0, 0, 0, 0, 0))) == "FFA_MSG_WAIT partition=8001 context=0"
+    assert str(decode((0x8400006B, 0x80010000, 0, 0, 0, 0, 0, 0))) == "FFA_MSG_WAIT partition=8001 context=0 flags=0"
     assert decode((0x00010001, 0, 0, 0, 0, 0, 0, 0)) is None
     answer: Any = Registers(0, success)
     with pytest.raises(TypeError, match=r"^x is a tuple of registers, and not Registers\(.*\): give its x$"):
@@ -201,6 +202,7 @@ def test_refuses_what_is_no_function() -> None:
 def test_arguments_that_may_be_left_out_are_zero() -> None:
     assert encode(Function.FFA_RUN, partition=0x8001) == encode(Function.FFA_RUN, partition=0x8001, context=0)
     assert encode(Function.FFA_MSG_WAIT) == (Function.FFA_MSG_WAIT, *(0,) * 7)
+    assert encode(Function.FFA_MSG_WAIT, flags=1) == (0x8400006B, 0, 1, *(0,) * 5)
     assert encode(Function.FFA_MEM_LEND, length=0x60)[1:5] == (0x60, 0x60, 0, 0)
     for function, names in OPTIONAL.items():
         assert names and names <= ARGUMENTS[function].keys()
@@ -285,6 +287,10 @@ def test_reads_the_partitions_of_the_worked_example() -> None:
     assert [it.to_bytes() for it in told] == [first, second]
     assert read_partitions(first + second, 2, Form.FFA_1_2) == told
     assert [it.to_bytes(Form.FFA_1_2) for it in told] == [first, second]
+    sender = PartitionInfo(0x8001, Properties.SENDS_REQUESTS | Properties.SENDS_SECOND_REQUESTS, named[0])
+    assert PartitionInfo.from_bytes(sender.to_bytes(Form.FFA_1_2), Form.FFA_1_2) == sender
+    assert sender.to_bytes(Form.FFA_1_2)[:8] == (0x0000050200018001).to_bytes(8, "little")
+    assert sender.to_bytes(Form.FFA_1_1)[:8] == (0x0000010200018001).to_bytes(8, "little")
     compact = PartitionInfo(0x8001, Properties(7))
     assert compact.to_bytes(Form.COMPACT) == (0x0000000700018001).to_bytes(8, "little")
     assert PartitionInfo.from_bytes(compact.to_bytes(Form.COMPACT), Form.COMPACT) == compact

@@ -11,7 +11,7 @@ from types import ModuleType
 import pytest
 from conftest import TOP
 
-from gorseplumb import Ffa, Form, Machine, Manifest, Ram, play
+from gorseplumb import Ffa, Form, Machine, Manifest, Properties, Ram, play
 
 
 def play_rows() -> ModuleType:
@@ -48,11 +48,16 @@ def whole(guard: str) -> str:
 
 
 def manifest_of(name: str, ffa: Ffa) -> Manifest:
-    """The manifest of a row. The library reads a text for FF-A 1.1, so an endpoint of 1.2 gets its form after that."""
+    """The manifest of a row. The library reads a text for FF-A 1.1, so an endpoint of 1.2 gets its form and properties after that."""
     text = (TOP / "tests" / "rows" / name).read_text(encoding="utf-8")
-    read = Manifest.read(text.replace('"1.2"', '"1.1"'))
-    versions = re.findall('^version = "(.*)"$', text, re.M)
-    endpoints = [replace(it, form=Form.FFA_1_2) if version == "1.2" else it for it, version in zip(read.endpoints, versions)]
+    of_1_1 = re.sub("^properties = (.*)$", lambda found: f"properties = {int(found[1], 0) & 15}", text, flags=re.M)
+    read = Manifest.read(of_1_1.replace('"1.2"', '"1.1"'))
+    forms = [Form.FFA_1_2 if it == "1.2" else None for it in re.findall('^version = "(.*)"$', text, re.M)]
+    properties = [Properties(int(it, 0)) for it in re.findall("^properties = (.*)$", text, re.M)]
+    endpoints = [
+        replace(it, form=form or it.form, properties=has)
+        for it, form, has in zip(read.endpoints, forms, properties, strict=True)
+    ]
     return replace(read, endpoints=endpoints, ffa=ffa)
 
 

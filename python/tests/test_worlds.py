@@ -55,6 +55,21 @@ def test_sends_and_retrieves_in_each_form(world: Form, first: Form) -> None:
         assert machine.read(TX_1 + 0x1000, offset + 5) == IndirectMessage(0, 0x8001, b"hello").to_bytes(world)
 
 
+@pytest.mark.parametrize("form", Form)
+def test_a_wait_leaves_the_rx_of_a_caller_of_1_2_full_by_its_flag(form: Form) -> None:
+    with Machine(of_forms(Form.FFA_1_1, form)) as machine:
+        machine.do(Function.FFA_RUN, partition=0x8001)
+        maps(machine, TX_1)
+        machine.do(Function.FFA_PARTITION_INFO_GET)
+        machine.do(Function.FFA_MSG_WAIT, flags=1)
+        machine.do(Function.FFA_RUN, partition=0x8001)
+        if form is Form.FFA_1_2:
+            machine.do(Function.FFA_RX_RELEASE)
+        with pytest.raises(Denied) as refused:
+            machine.do(Function.FFA_RX_RELEASE)
+        assert refused.value.check is Check.RX_EMPTY
+
+
 @pytest.mark.parametrize("minor, form", [(0, Form.COMPACT), (1, Form.FFA_1_1), (2, Form.FFA_1_2), (3, Form.FFA_1_2)])
 def test_a_caller_has_the_form_of_the_version_that_it_asks_for(minor: int, form: Form) -> None:
     for before in Form:

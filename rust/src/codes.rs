@@ -94,7 +94,7 @@ codes! {
         7 RamBlocks "RAM has no block, or more than 32",
         8 EndpointCount "there is no endpoint, or more than 8",
         9 Uuid "a UUID can't be read, a partition's is zeros, or the normal world's isn't",
-        10 Property "the properties aren't 0 to 15, or the normal world is to receive",
+        10 Property "a property is unknown, or isn't the version's, or the normal world is to receive",
         11 RegionCount "an endpoint has no region, or more than 16",
         12 RegionOutside "a region isn't whole pages in RAM that are none of the tables', or has none",
         13 RegionOverlap "a region has a page of a region before it",

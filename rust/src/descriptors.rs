@@ -4,9 +4,9 @@ use crate::checks::Flaw;
 use crate::functions::Function;
 use crate::hexadecimal::{shown, Hexadecimal};
 use crate::layout::{
-    access_size, attributes, check_access, check_asked, check_count, check_permissions, check_range, check_send,
-    flags_but_kind, header_size, read_count, read_header, read_range, require, total, u16_at, u32_at, u64_at, Access,
-    Array, DescriptorBytes, Header, ENTRY, NON_SECURE, NORMAL_MEMORY, RELINQUISH,
+    access_size, attributes, check_access, check_asked, check_count, check_names, check_permissions, check_range,
+    check_retrieve, check_send, flags_but_kind, header_size, read_count, read_header, read_range, require, total,
+    u16_at, u32_at, u64_at, Access, Array, DescriptorBytes, Header, ENTRY, NON_SECURE, RELINQUISH,
 };
 use crate::manifest::{Ffa, Version};
 use crate::ram::PAGE_SIZE;
@@ -410,17 +410,32 @@ impl Retrieve {
         bytes
     }
 
-    /// What a descriptor of this form says, which this endpoint has written.
+    /// What a descriptor of this form says, which this endpoint has written. The machine that reads it serves FF-A 1.2 if the form
+    /// is [`Version::V1_2`], and else FF-A 1.1.
     ///
     /// # Errors
     /// The first condition that the bytes break, as the machine has it.
     pub fn read(bytes: &[u8], endpoint: Id, form: Version) -> Result<Retrieve, DescriptorError> {
+        let ffa = if form == Version::V1_2 { Ffa::V1_2 } else { Ffa::V1_1 };
+        Retrieve::read_for(bytes, endpoint, form, ffa)
+    }
+
+    /// The same, for a machine of this version of FF-A. On one of FF-A 1.2 the descriptor may name the other receivers too, of which
+    /// only the caller is told here.
+    ///
+    /// # Errors
+    /// The same, and [`Flaw::HeaderAccessSize`] for the form [`Version::V1_2`] on a machine of FF-A 1.1, which does not have it.
+    pub fn read_for(bytes: &[u8], endpoint: Id, form: Version, ffa: Ffa) -> Result<Retrieve, DescriptorError> {
+        require(form != Version::V1_2 || ffa == Ffa::V1_2, Flaw::HeaderAccessSize)?;
         let (header, array) = read_header(bytes, form)?;
-        require(matches!(header.attributes, 0 | NORMAL_MEMORY), Flaw::RetrieveAttributes)?;
-        require(header.flags & !0x18 == 0, Flaw::RetrieveFlags)?;
-        require(header.count == 1, Flaw::RetrieveAccessCount)?;
-        let access = array.read(bytes, 0);
-        check_asked(endpoint.0, &access)?;
+        check_retrieve(ffa, &header)?;
+        let count = header.count as usize;
+        let own = (0..count).find(|index| array.read(bytes, *index).endpoint == endpoint.0).unwrap_or(0);
+        let access = array.read(bytes, own);
+        check_asked(endpoint.0, &access).map_err(|error| DescriptorError { index: own as u32, ..error })?;
+        if ffa == Ffa::V1_2 {
+            check_names(bytes, array, count)?;
+        }
         Ok(Retrieve {
             sender: Id(header.sender),
             handle: Handle(header.handle),

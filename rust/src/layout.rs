@@ -280,6 +280,35 @@ pub(crate) fn check_access(
     require(earlier.iter().all(|it| it.endpoint.0 != access.endpoint), Flaw::AccessReceiverTwice)
 }
 
+/// The flag of a retrieve on a machine of FF-A 1.2 that says that the descriptor names the caller alone.
+const NAMES_ONE: u32 = 1 << 10;
+
+/// What holds of the header of a retrieve on a machine of this version of FF-A.
+pub(crate) fn check_retrieve(ffa: Ffa, header: &Header) -> Result<(), DescriptorError> {
+    let (flags, names_one) = match ffa {
+        Ffa::V1_1 => (header.flags, true),
+        Ffa::V1_2 => (header.flags & !NAMES_ONE, header.flags & NAMES_ONE != 0),
+    };
+    let most = if names_one { 1 } else { MOST_RECEIVERS };
+    require(matches!(header.attributes, 0 | NORMAL_MEMORY), Flaw::RetrieveAttributes)?;
+    require(flags & !0x18 == 0, Flaw::RetrieveFlags)?;
+    require((1..=most).contains(&(header.count as usize)), Flaw::RetrieveAccessCount)
+}
+
+/// What holds of the access descriptors of a retrieve on a machine of FF-A 1.2, whoever they name.
+pub(crate) fn check_names(bytes: &[u8], array: Array, count: usize) -> Result<(), DescriptorError> {
+    for index in 0..count {
+        let require = |holds, flaw| require_of(index, holds, flaw);
+        let access = array.read(bytes, index);
+        require(access.flags <= 1, Flaw::AccessFlags)?;
+        require(access.composite == 0, Flaw::AccessOtherComposite)?;
+        require(access.is_rest_zero, Flaw::AccessReserved)?;
+        let is_new = (0..index).all(|earlier| array.read(bytes, earlier).endpoint != access.endpoint);
+        require(is_new, Flaw::AccessReceiverTwice)?;
+    }
+    Ok(())
+}
+
 /// What holds of the access descriptor of a retrieve of this endpoint.
 pub(crate) fn check_asked(endpoint: u16, access: &Access) -> Result<(), DescriptorError> {
     require(access.endpoint == endpoint, Flaw::RetrieveReceiverIsAnother)?;

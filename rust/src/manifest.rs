@@ -98,7 +98,7 @@ impl Version {
     }
 }
 
-/// What an endpoint takes part in: some of four, joined by `|` or, in a constant, by [`Properties::union`].
+/// What an endpoint takes part in: some of six, joined by `|` or, in a constant, by [`Properties::union`].
 #[derive(Clone, Copy, Debug, PartialEq, Eq, Hash)]
 pub struct Properties(u32);
 
@@ -113,7 +113,11 @@ impl Properties {
     pub const INDIRECT_MESSAGES: Properties = Properties(4);
     /// It receives notifications, which the normal world may not by its manifest.
     pub const NOTIFICATIONS: Properties = Properties(8);
-    /// All four.
+    /// It receives second direct requests, which only a partition of [`Version::V1_2`] may.
+    pub const RECEIVES_SECOND_REQUESTS: Properties = Properties(0x200);
+    /// It sends second direct requests, which only a partition of [`Version::V1_2`] may.
+    pub const SENDS_SECOND_REQUESTS: Properties = Properties(0x400);
+    /// All four that a partition of any version may have.
     pub const ALL: Properties = Properties(15);
 
     /// These and others.

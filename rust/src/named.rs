@@ -16,7 +16,7 @@ type Place = (&'static str, &'static [Piece]);
 const fn arguments(function: Function) -> &'static [Place] {
     match function {
         Function::Error => &[("code", &[(2, 0, 32)])],
-        Function::Interrupt | Function::MsgWait | Function::Yield | Function::Run => {
+        Function::Interrupt | Function::Yield | Function::Run => {
             &[("partition", &[(1, 16, 16)]), ("context", &[(1, 0, 16)])]
         }
         Function::Version => &[("major", &[(1, 16, 15)]), ("minor", &[(1, 0, 16)])],
@@ -27,6 +27,7 @@ const fn arguments(function: Function) -> &'static [Place] {
         Function::PartitionInfoGet => {
             &[("uuid", &[(1, 0, 32), (2, 0, 32), (3, 0, 32), (4, 0, 32)]), ("count_only", &[(5, 0, 1)])]
         }
+        Function::MsgWait => &[("partition", &[(1, 16, 16)]), ("context", &[(1, 0, 16)]), ("flags", &[(2, 0, 32)])],
         Function::MsgSendDirectReq | Function::MsgSendDirectResp => &[
             ("sender", &[(1, 16, 16)]),
             ("receiver", &[(1, 0, 16)]),
@@ -81,7 +82,8 @@ const fn optional(function: Function) -> &'static [&'static str] {
         Function::Interrupt | Function::Run | Function::NotificationGet => &["context"],
         Function::RxtxUnmap => &["endpoint"],
         Function::PartitionInfoGet => &["uuid", "count_only"],
-        Function::MsgWait | Function::Yield => &["partition", "context"],
+        Function::MsgWait => &["partition", "context", "flags"],
+        Function::Yield => &["partition", "context"],
         Function::MsgSendDirectReq
         | Function::MsgSendDirectReq64
         | Function::MsgSendDirectResp

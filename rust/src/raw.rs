@@ -8,7 +8,7 @@
 use core::ffi::c_void;
 
 /// The number of the declarations that stand here.
-pub const DECLARATIONS: u32 = 12;
+pub const DECLARATIONS: u32 = 13;
 
 /// What a question answers where there is nothing to tell.
 pub const NOTHING: u32 = u32::MAX;

@@ -94,6 +94,12 @@ fn each_cause_of_numbers() {
     let why = Machine::boot(&newer).unwrap_err().to_string();
     assert!(why.contains("a version is unknown, or is 1.2 on a machine of FF-A 1.1"), "{why}");
     assert!(Machine::boot(&newer.with_ffa(Ffa::V1_2)).is_ok());
+    let second = Properties::ALL | Properties::RECEIVES_SECOND_REQUESTS | Properties::SENDS_SECOND_REQUESTS;
+    let of =
+        |version| machine(Endpoint::partition([1; 16], version, second, &[region(0x20000, 1)])).with_ffa(Ffa::V1_2);
+    assert!(Machine::boot(&of(Version::V1_2)).is_ok());
+    refuses(&of(Version::V1_1), Cause::Property);
+    refuses(&of(Version::Compact), Cause::Property);
     refuses(&MACHINE.with_tables(504), Cause::TablesOutside);
     refuses(&MACHINE.with_tables(u32::MAX), Cause::TablesOutside);
     refuses(&MACHINE.with_tables(63), Cause::RegionOutside);

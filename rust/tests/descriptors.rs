@@ -491,6 +491,16 @@ fn changed(good: &[u8], state: &mut u64) -> Vec<u8> {
     bytes
 }
 
+/// The flaw of a retrieve of the normal world. On a machine of FF-A 1.2, one that names nobody is a hypervisor's.
+fn retrieve_flaw(bytes: &[u8], form: Version, ffa: Ffa) -> Option<(Flaw, u32)> {
+    let header = if form == Version::Compact { 32 } else { 48 };
+    if ffa == Ffa::V1_2 && bytes.len() >= header && bytes[28..32] == [0; 4] {
+        let is_alone = (0..header).all(|at| (8..16).contains(&at) || bytes[at] == 0);
+        return (!is_alone).then_some((RetrieveNotZero, 0));
+    }
+    Retrieve::read_for(bytes, Id(0), form, ffa).err().map(|error| (error.flaw, error.index))
+}
+
 #[test]
 fn a_machine_tells_the_same_of_changed_bytes() {
     let mut state = 0x9E37_79B9_7F4A_7C15;
@@ -509,8 +519,8 @@ fn a_machine_tells_the_same_of_changed_bytes() {
 
             let asked = Retrieve { receiver: Receiver::rw(Id(0)), ..ASKED };
             let bytes = changed(&asked.to_bytes(form), &mut state);
-            let found = Retrieve::read(&bytes, Id(0), form).err().map(|error| (error.flaw, error.index));
-            assert_eq!(found, told(&mut machine, Function::MemRetrieveReq, &bytes), "{form:?} {bytes:X?}");
+            let found = retrieve_flaw(&bytes, form, ffa);
+            assert_eq!(found, told(&mut machine, Function::MemRetrieveReq, &bytes), "{form:?} {ffa:?} {bytes:X?}");
             seen.extend(found.map(|(flaw, _)| flaw));
 
             let mut bytes = changed(&Relinquish::new(Handle(5), Id(6)).to_bytes(), &mut state);

@@ -56,7 +56,7 @@ const RETRIEVE: Descriptor =
 const RELINQUISH: Descriptor = Descriptor { call: 0x8400_0076, length: 0, words: &[(0x08, 0x1_0000_0000)] };
 
 /// Each condition with what breaks it: words in the place of others, and the length.
-const FLAWS: [(Flaw, &Descriptor, u64, Words); 42] = [
+const FLAWS: [(Flaw, &Descriptor, u64, Words); 43] = [
     (HeaderShort, &LEND, 0x2F, &[]),
     (HeaderAccessSize, &LEND, 0x60, &[(0x18, 0x1_0000_0011)]),
     (HeaderArrayUnaligned, &LEND, 0x60, &[(0x20, 0x31)]),
@@ -89,7 +89,7 @@ const FLAWS: [(Flaw, &Descriptor, u64, Words); 42] = [
     (RangeOverlap, &LEND, 0x70, &[(0x40, 0x2_0000_0002), (0x60, 0x4001_0000), (0x68, 1)]),
     (RetrieveAttributes, &RETRIEVE, 0x40, &[(0x00, 0x1_0000)]),
     (RetrieveFlags, &RETRIEVE, 0x40, &[(0x00, 0x1_0000_0000)]),
-    (RetrieveAccessCount, &RETRIEVE, 0x40, &[(0x18, 0x10)]),
+    (RetrieveAccessCount, &RETRIEVE, 0x50, &[(0x00, 0x400_0000_0000), (0x18, 0x2_0000_0010)]),
     (RetrieveReceiverIsAnother, &RETRIEVE, 0x40, &[(0x30, 0x8001)]),
     (RetrieveDataPermission, &RETRIEVE, 0x40, &[(0x30, 0x3_0000)]),
     (RetrieveInstructionPermission, &RETRIEVE, 0x40, &[(0x30, 0xC_0000)]),
@@ -97,6 +97,7 @@ const FLAWS: [(Flaw, &Descriptor, u64, Words); 42] = [
     (RetrieveAccessFlags, &RETRIEVE, 0x40, &[(0x30, 0x100_0000)]),
     (RetrieveCompositeTold, &RETRIEVE, 0x40, &[(0x30, 0x40_0000_0000)]),
     (RetrieveAccessReserved, &RETRIEVE, 0x40, &[(0x38, 1)]),
+    (RetrieveNotZero, &RETRIEVE, 0x40, &[(0x18, 0x10)]),
     (RelinquishFlags, &RELINQUISH, 0, &[(0x08, 0x1_0000_0002)]),
     (RelinquishEndpointCount, &RELINQUISH, 0, &[(0x08, 0)]),
 ];

@@ -16,6 +16,8 @@ fn calls_and_answers() {
         (registers([0x8400_0063, 0x1_0001]), "FFA_VERSION major=1 minor=1"),
         (registers([0x8400_0064, 0x8400_006D]), "FFA_FEATURES feature=FFA_RUN"),
         (registers([0x8400_0060, 0, 0xFFFF_FFFA]), "FFA_ERROR code=DENIED"),
+        (registers([0x8400_006B, 0x8001_0000, 1]), "FFA_MSG_WAIT partition=8001 context=0 flags=1"),
+        (registers([0x8400_006C, 0x8001_0000, 1]), "FFA_YIELD partition=8001 context=0"),
         (registers([0x8400_0077, 1, 0x8001]), "FFA_MEM_RECLAIM handle=0000800100000001 flags=0"),
         (
             registers([0x8400_0068, 0x3322_1100, 0x7766_5544, 0xBBAA_9988, 0xFFEE_DDCC, 1]),
@@ -129,10 +131,13 @@ fn what_is_told_is_read_again() {
         registers([0xC400_006F, 0x8001, 0, u64::MAX, 2]),
         registers([0x8400_0068, 0x3322_1100, 0x7766_5544, 0xBBAA_9988, 0xFFEE_DDCC, 1]),
         registers([0xC400_0083]),
+        registers([0x8400_006B, 0x8001_0000, 1]),
     ] {
         assert_eq!(read(&told(call, None)), call);
     }
     assert_eq!(told(registers([0x8400_0064, 0xC400_0066]), None), "FFA_FEATURES feature=FFA_RXTX_MAP_64");
+    assert_eq!(encode(Function::MsgWait, &[]), Ok(registers([0x8400_006B])));
+    assert_eq!(encode(Function::MsgWait, &[("flags", 1)]), Ok(registers([0x8400_006B, 0, 1])));
     let run = |text| encode_words(Function::Run, &[("partition", text)]);
     assert_eq!(run("0x8001"), Ok(registers([0x8400_006D, 0x8001_0000])));
     for text in ["", "0x", "80 01", "+8001", "FFA_RUN", &"F".repeat(33)] {

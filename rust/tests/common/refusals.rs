@@ -1,6 +1,6 @@
 // SPDX-License-Identifier: MIT OR Apache-2.0
 //! Each check of each call, with the smallest operation that fails it and what is done before. docs/CALLS.md and
-//! docs/MEMORY.md list the checks; three of them nothing fails.
+//! docs/MEMORY.md list the checks; four of them nothing fails.
 use gorseplumb::Check::{self, *};
 use gorseplumb::{Endpoint, Ffa, Manifest, Properties, Region, Rights, Version};
 
@@ -42,7 +42,13 @@ pub const MACHINE: Manifest = Manifest::new(
 
 /// Checks that nothing fails: no partition is blocked while the normal world runs, a donate grants no right, and a
 /// share that asks for zeros is no descriptor.
-pub const NEVER: [(&str, usize); 3] = [("FFA_RUN", 4), ("FFA_MEM_DONATE", 11), ("FFA_MEM_SHARE", 12)];
+pub const NEVER: [(&str, usize); 4] = [
+    ("FFA_RUN", 4),
+    ("FFA_MEM_DONATE", 11),
+    ("FFA_MEM_SHARE", 12),
+    // Only a machine of FF-A 1.1 makes this check.
+    ("FFA_PARTITION_INFO_GET", 2),
+];
 
 const WAIT: &str = "call 8400006B\n";
 const YIELD: &str = "call 8400006C\n";
@@ -176,8 +182,8 @@ fn setup() -> Vec<Row> {
         row("Every other identifier", 1, FunctionUnknown, &[], "call 0"),
         row("FFA_FEATURES", 1, FunctionUnknown, &[], "call 84000064"),
         row(info, 1, UuidUnknown, &[], "call 84000068 1"),
-        row(info, 2, BuffersMissing, &[], "call 84000068"),
         row(info, 3, RxFull, &[MAP, INFO], "call 84000068"),
+        row(info, 4, BuffersNeeded, &[], "call 84000068"),
         row(map, 1, BuffersMapped, &[MAP], "call 84000066"),
         row(map, 2, BufferPageCount, &[], "call 84000066"),
         row(map, 3, TxMisplaced, &[], "call 84000066 0 0 1"),
@@ -318,6 +324,8 @@ fn retrieves() -> Vec<Row> {
         row(12, AlreadyRetrieved, &[&lent, &asked, "call 84000074 40 40\n"], " 40 40"),
         row(13, RightTooMuch, &[&read_only, &asks(0, 0, 0, RW)], " 40 40"),
         row(14, RxFull, &[&lent, INFO, &asked], " 40 40"),
+        row(15, ReceiversDiffer, &[&lent, &asked, "store 4003E01C 02\nstore 4003E040 8003\n"], " 50 50"),
+        row(16, NotTheSenders, &[MAP, "store 4001E008 07\n"], " 30 30"),
     ]
 }
 
