@@ -41,6 +41,13 @@ typedef uint32_t boot_in_list(struct gorseplumb_machine *machine, struct gorsepl
  * identifiers and their tables then. */
 void boot(struct board *board, const char *manifest, boot_in_list *boot_in);
 
+/* Reads a manifest's text as one of a machine of FF-A 1.2, which no text can ask for. */
+static inline uint32_t read_manifest_of_1_2(const uint8_t *text, size_t size, struct gorseplumb_manifest *manifest) {
+    uint32_t answer = gorseplumb_read_manifest(text, size, manifest);
+    manifest->ffa = GORSEPLUMB_FFA_1_2;
+    return answer;
+}
+
 /* From here on the core may ask for no memory: the board stops where it does. */
 void end_memory(void);
 

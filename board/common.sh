@@ -102,6 +102,12 @@ install_packages() {
     log=$(apt-get update 2>&1 && apt-get install -y --no-install-recommends "$@" 2>&1) || fail "cannot install the packages: $log"
 }
 
+# An apt command that has the list FOLDER/sources.list, and keeps all in FOLDER: apt_in FOLDER COMMAND WORD.. The machine's lists stay as they are.
+apt_in() {
+    "$2" -o "Dir::Etc::SourceList=$1/sources.list" -o Dir::Etc::SourceParts=/dev/null -o "Dir::State::Lists=$1/lists" -o "Dir::Cache=$1/cache" \
+        -o APT::Sandbox::User=root "${@:3}"
+}
+
 # Whether commands are there, of packages that --install installs: needs "PACKAGE.." COMMAND..
 needs() {
     local command

@@ -104,16 +104,16 @@ build_several() {
 # both print the same. What the program printed is in $to/expected. So nobody writes outcomes down. Of tables, their effect is compared,
 # and not their words.
 play() {
-    local devices memory=256M processors=1 machine=virt,virtualization=on judges=1
+    local devices memory=256M processors=1 machine=virt,virtualization=on judges=1 ffa=1.1
     if [[ $1 == high ]]; then memory=3G; fi
     if is_watched "$4"; then processors=2; fi
     if is_several "$4"; then
         processors=$(sed -n 's/^processors //p' "$4") machine+=,gic-version=3
-        judges=$processors
+        judges=$processors ffa=1.2
     fi
     mapfile -t devices < <(loader "$3" 48000000 && loader "$4" 49000000)
     emulate -kernel "$to/$1.elf" -machine $machine -accel tcg,thread=multi -smp "$processors" -cpu "$2" -m $memory "${devices[@]}"
-    "$player" run --processors "$judges" "$3" "$to/trace" >"$to/expected" || fail "the program does not play what $(basename "$4") did"
+    "$player" run --ffa $ffa --processors "$judges" "$3" "$to/trace" >"$to/expected" || fail "the program does not play what $(basename "$4") did"
     if [[ $keep ]]; then keep_scene "$1-$2-$(basename "$4")"; fi
     has_end && ! grep -q '^!' "$to/uart" && cmp -s "$to/expected" "$to/found"
 }

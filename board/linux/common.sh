@@ -41,7 +41,7 @@ last_words() {
 # What was done, each with what came of it.
 with_outcomes() { paste -d '|' <(grep -v '^on ' "$to/trace") "$to/found"; }
 
-# Whom FFA_NOTIFICATION_INFO_GET named; Linux's driver says of NO_DATA that it failed, which it compares in 64 bits.
+# Whom FFA_NOTIFICATION_INFO_GET named; the driver of Linux 6.12 says of NO_DATA that it failed, which it compares in 64 bits.
 named() {
     with_outcomes | awk -F '|' '
         $1 !~ /^call C4000083/ { next }

@@ -25,9 +25,15 @@ void second_processor(void) {
     run_guests(&board);
 }
 
+static uint32_t boot_in(struct gorseplumb_machine *machine, struct gorseplumb_lent *list, const uint8_t *text, size_t size) {
+    struct gorseplumb_manifest manifest;
+    uint32_t answer = read_manifest_of_1_2(text, size, &manifest);
+    return answer == GORSEPLUMB_OK ? gorseplumb_boot_preloaded_manifest(machine, list, &manifest) : answer;
+}
+
 void firmware(void) {
     uint64_t begin = nanoseconds();
-    boot(&board, (const char *)MANIFEST_TEXT, gorseplumb_boot_preloaded);
+    boot(&board, (const char *)MANIFEST_TEXT, boot_in);
     put_boot(nanoseconds() - begin);
     place_endpoints(&board, (const char *)ENDPOINT_LIST);
     begin_guests(&board);

@@ -24,8 +24,8 @@ library. This takes some minutes if the library and the program are proved and t
 
   --install      first install Debian's packages for this
   --build-only   build the firmwares and the partitions' program, and run nothing
-  --kernel KIND  boot another Linux: 16k, 64k, 6.1, debian or debian-cloud [default: 4k]
-                 (board/linux/kernel --help describes them)
+  --kernel KIND  boot another Linux: 16k, 64k, 6.1, newest, debian or debian-cloud [default: 4k]
+                 (board/linux/kernel --help describes them; newest must ask for FF-A 1.2)
   --limits NAME  use a copy of the repository with limits/NAME.edit; Linux then shares a page 100,000 times
                  (the copy's library is proved first, and its program is compiled without proofs)
   --several      only boot Linux on two and on four processors, where each may run a partition
@@ -61,7 +61,7 @@ while (($#)); do
     esac
     shift
 done
-[[ $kernel =~ ^(4k|16k|64k|6\.1|debian|debian-cloud)$ ]] || refuse "--kernel $kernel: must be 4k, 16k, 64k, 6.1, debian or debian-cloud"
+[[ $kernel =~ ^(4k|16k|64k|6\.1|newest|debian|debian-cloud)$ ]] || refuse "--kernel $kernel: must be 4k, 16k, 64k, 6.1, newest, debian or debian-cloud"
 [[ $kernel == 4k || -z $limits ]] || refuse "--limits can be used only with the kernel 4k"
 [[ -z $limits || -e $top/limits/$limits.edit ]] || refuse "--limits $limits: there is no limits/$limits.edit"
 is_count "$rounds" || refuse "--rounds $rounds: must be a number from 0 to 999999999"
@@ -74,7 +74,13 @@ mkdir -p "$work" ${keep:+"$keep"}
 work=$(cd "$work" && pwd)
 check_folder "$work"
 make_room 128
-linux=$(linux_in "$work/linux/$kernel")
+
+# The sections of expected.txt that a kernel has to print whatever the run is.
+case $kernel in
+    6.1) always=(linux driver held 6.1) ;;
+    newest) always=(linux driver held later newest) ;;
+    *) always=(linux driver held later 6.12) ;;
+esac
 
 # The repository of which core and program are taken: this one, or a copy with other limits. A copy's program is the one that knows these.
 repository=$top
@@ -130,7 +136,7 @@ keep_run() {
     for kind in uart linux trace found expected explained; do cp "$to/$kind" "$keep/$1.$kind"; done
 }
 
-# Judges what was run: judge NAME SECTION.., of expected.txt
+# Judges what was run: judge NAME SECTION.., of expected.txt beside those that are always there
 judge() {
     local lacks name=$1
     shift
@@ -138,7 +144,8 @@ judge() {
         { diff "$to/expected" "$to/found" || true; } | sed -n 1,10p >&2
         fail "$name: the library's answers to Linux differ from the program's (< the program, > the library)"
     fi
-    lacks=$(missing "$@")
+    [[ $kernel != newest ]] || grep -qE '^call 84000063 10002( 0)*$' "$to/trace" || fail "$name: Linux does not ask FFA_VERSION for 1.2"
+    lacks=$(missing "${always[@]}" "$@")
     [[ -z $lacks ]] || { last_words >&2; fail "$name: Linux does not print: $lacks"; }
     if grep 'FAILED' "$to/linux" >&2; then fail "$name: Linux reports FAILED, as printed above"; fi
     has_end || fail "$name: the board did not reach its end"
@@ -178,11 +185,11 @@ try_random() {
 # Linux on so many processors, on each of which a partition may run and is stopped by what is due there: a partition that works long for one, and
 # threads that all work at once: try_several NUMBER PROCESSOR
 try_several() {
-    local judge=("$player" run --processors "$1") redistributors found
+    local judge=("$player" run --ffa 1.2 --processors "$1") redistributors found
     redistributors=$(printf %X $((0x20000 * $1)))
     build_tree smc "$1" ffa_try.schedules=1 ffa_try.works=20 "ffa_try.random=$rounds"
     limit=1800 run "$1-processors" several -cpu "$2" -smp "$1" -accel tcg,thread=multi
-    judge "$1-processors" linux driver held 6.12 "$1-processors" notifications scheduled works random
+    judge "$1-processors" "$1-processors" notifications scheduled works random
     grep -o 'works: [0-9].*' "$to/linux"
     grep -o 'random: [0-9].*' "$to/linux"
     if grep -E 'Notification (bitmap|setup)|Failed to retrieve' "$to/linux" >&2; then fail "$1-processors: Linux's driver cannot use notifications"; fi
@@ -198,17 +205,17 @@ all_several() {
 
 # All that is run of the kernel of the kind 4k.
 run_all() {
-    local all=(linux driver held 6.12) conduit
+    local conduit
     for conduit in smc hvc; do
         build_tree $conduit 1
-        try $conduit plain cortex-a57 "${all[@]}" no-interrupt
+        try $conduit plain cortex-a57 no-interrupt
     done
     build_tree smc 1
-    try max plain max "${all[@]}" no-interrupt
-    try notify notify cortex-a57 "${all[@]}" notifications
+    try max plain max no-interrupt
+    try notify notify cortex-a57 notifications
     build_tree smc 2
-    try two-processors plain cortex-a57 "${all[@]}" two-processors
-    try_random notify cortex-a57 "${all[@]}" notifications
+    try two-processors plain cortex-a57 two-processors
+    try_random notify cortex-a57 notifications
     all_several cortex-a57
     find_stale
     measure
@@ -218,19 +225,33 @@ run_all() {
 run_long() {
     local limit=3000
     build_tree smc 1 ffa_try.rounds=50000 ffa_try.pieces=1
-    try long plain cortex-a57 linux driver held 6.12 no-interrupt
+    try long plain cortex-a57 no-interrupt
     grep -o 'note: 50000 rounds.*' "$to/linux"
-    try_random plain cortex-a57 linux driver held 6.12
+    try_random plain cortex-a57
 }
 
-# What is run of another: run_other PROCESSOR SECTION
+# What is run of the newest.
+run_newest() {
+    build_tree smc 1
+    try smc plain cortex-a57 no-interrupt
+    try notify notify cortex-a57 notifications
+    try_random notify cortex-a57 notifications
+    all_several cortex-a57
+}
+
+# What is run of another: run_other PROCESSOR
 run_other() {
     build_tree smc 1
-    try "$kernel" plain "$1" linux driver held "$2"
-    try_random plain "$1" linux driver held "$2"
+    try "$kernel" plain "$1"
+    try_random plain "$1"
 }
 
-if [[ ! $only ]]; then "$here/kernel" ${install:+--install} --jobs "$jobs" "$kernel" "$work/linux"; fi
+# (the kernel's folder stands before the colon)
+if [[ ! $only ]]; then
+    linux=$("$here/kernel" ${install:+--install} --jobs "$jobs" "$kernel" "$work/linux")
+    echo "$linux"
+    linux=${linux%%: *}
+fi
 cp "$here/linux.toml" "$to/manifest"
 make_archive "$repository"
 build_partition
@@ -245,7 +266,7 @@ if [[ $only ]]; then
 fi
 # (a copy's program is taken unproved: it writes no descriptor of more ranges than one page holds for four receivers)
 [[ -n ${FFAPLAY:-}$limits ]] || "$repository/ffaplay" prove
-judge=("$player" run --processors 1)
+judge=("$player" run --ffa 1.2 --processors 1)
 if [[ $several ]]; then
     all_several cortex-a57
     echo passed
@@ -253,11 +274,8 @@ if [[ $several ]]; then
 fi
 case $kernel in
     4k) if [[ $limits ]]; then run_long; else run_all; fi ;;
-    16k) run_other max 6.12 ;;
-    64k | debian*) run_other cortex-a57 6.12 ;;
-    6.1)
-        sed -i '0,/version = "1.1"/s//version = "compact"/' "$to/manifest"
-        run_other cortex-a57 6.1
-        ;;
+    newest) run_newest ;;
+    16k) run_other max ;;
+    *) run_other cortex-a57 ;;
 esac
 echo passed

@@ -18,9 +18,8 @@ static struct gorseplumb_manifest manifest;
 static void read_manifest(void) {
     size_t size = 0;
     while (manifest_text[size] != '\0') size++;
-    if (gorseplumb_read_manifest((const uint8_t *)manifest_text, size, &manifest) != GORSEPLUMB_OK) stop("the manifest is refused");
+    if (read_manifest_of_1_2((const uint8_t *)manifest_text, size, &manifest) != GORSEPLUMB_OK) stop("the manifest is refused");
     uint32_t by = (uint32_t)RAM_BASE - manifest.ram_base;
-    manifest.ffa = GORSEPLUMB_FFA_1_2;
     manifest.ram_base += by;
     manifest.tables = (uint32_t)(TABLES_AT - RAM_BASE) / GORSEPLUMB_PAGE_SIZE;
     for (uint32_t i = 0; i < manifest.endpoint_count; i++) {

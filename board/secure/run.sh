@@ -191,8 +191,7 @@ try_program() {
 try_linux() {
     local lacks redistributors found processors=$2 limit=1800
     redistributors=$(printf %X $((0x20000 * $2)))
-    build_tree smc "$2" ffa_try.lends_to_both=1 ffa_try.table_at=0x48000000 ffa_try.partition_at=0x$first_at \
-        ffa_try.firmware_at=0x0E100000 ffa_try.device_at=0x09040000 "${@:4}"
+    build_tree smc "$2" ffa_try.table_at=0x48000000 ffa_try.partition_at=0x$first_at ffa_try.firmware_at=0x0E100000 ffa_try.device_at=0x09040000 "${@:4}"
     with_three_partitions
     add_image "$linux/Image" $image_at
     add_image "$linux/initramfs" $initramfs_at
@@ -201,7 +200,7 @@ try_linux() {
     judge "$1"
     grep -q '^resumed' "$to/found" || fail "$1: no partition was stopped and resumed"
     found=$(busy) || fail "$1: a call was refused with BUSY though it names no partition"
-    lacks=$(missing linux driver 6.12 beside "$3")
+    lacks=$(missing linux driver later 6.12 beside "$3")
     [[ -z $lacks ]] || { last_words >&2; fail "$1: Linux does not print: $lacks"; }
     (($(grep -c FAILED "$to/linux") == $(grep -c FAILED "$board/linux/expected.txt"))) || fail "$1: $(grep FAILED "$to/linux")"
     grep -oE '(works|random): [0-9].*' "$to/linux" || true

@@ -198,10 +198,16 @@ void second_processor(void) {
     run_board(&board);
 }
 
+static uint32_t boot_in(struct gorseplumb_machine *machine, struct gorseplumb_lent *list, const uint8_t *text, size_t size) {
+    struct gorseplumb_manifest manifest;
+    uint32_t answer = read_manifest_of_1_2(text, size, &manifest);
+    return answer == GORSEPLUMB_OK ? gorseplumb_boot_lent_manifest(machine, list, &manifest) : answer;
+}
+
 void firmware(void) {
     uint64_t seed, count;
     begin_processor();
-    boot(&board, (const char *)MANIFEST_TEXT, gorseplumb_boot_lent);
+    boot(&board, (const char *)MANIFEST_TEXT, boot_in);
     read_scene((const char *)SCENE_TEXT);
     is_random = scene_is_random(&seed, &count);
     place_programs(&board, is_random);

@@ -18,7 +18,7 @@
  */
 #define TX_BYTES (SPEAKS_1_1 && PAGE_SIZE == SZ_16K ? SZ_16K : SZ_4K)
 /* What stands before the ranges of a descriptor to one receiver. */
-#define HEAD_BYTES (SPEAKS_1_1 ? 80 : 64)
+#define HEAD_BYTES (SPEAKS_1_2 ? 96 : SPEAKS_1_1 ? 80 : 64)
 #define RANGES_OF_TX ((TX_BYTES - HEAD_BYTES) / 16)
 
 /*
@@ -84,29 +84,29 @@ static void try_count(const struct sending *how, unsigned int count)
 
 static void try_served(void)
 {
-	struct sending zeroed = lend, both = share;
+	struct sending zeroed = lend, both = share, lent_to_both = lend;
 
 	zeroed.flags = FFA_MEM_CLEAR;
 	both.second_rights = FFA_MEM_RO;
+	lent_to_both.second_rights = FFA_MEM_RO;
 	try_send("share a page", 1, &share, 0);
 	try_send("lend a page", 1, &lend, 0);
 	try_send("lend a page that is zeroed", 1, &zeroed, 0);
 	try_send("share a page, offered to both", 1, &both, 0);
+	try_send("lend a page, offered to both", 1, &lent_to_both, 0);
 	try_count(&share, ranges);
 	try_count(&lend, ranges);
 }
 
 static void try_refused(void)
 {
-	struct sending zeroed = share, both = lend, beside = share, executable = share;
+	struct sending zeroed = share, beside = share, executable = share;
 
 	zeroed.flags = FFA_MEM_CLEAR;
-	both.second_rights = FFA_MEM_RO;
 	beside.own_buffer = true;
 	executable.rights |= FFA_MEM_EXEC;
 	try_count(&share, ranges + 1);
 	try_count(&share, MANY_PIECES);
-	try_send("lend a page, offered to both", 1, &both, lends_to_both ? 0 : -EINVAL);
 	try_send("share by a buffer beside TX", 1, &beside, -EINVAL);
 	try_send("share a page that may be executed", 1, &executable, -EINVAL);
 	try_send("share a page that is zeroed", 1, &zeroed, -EINVAL);

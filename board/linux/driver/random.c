@@ -258,14 +258,11 @@ static struct sending choose(struct client *of, bool lend)
 	return how;
 }
 
-/* Linux's driver gives a lend no attributes: right for one receiver, and in FF-A 1.2 for both. */
 static int wanted_of(const struct sending *how)
 {
-	bool both = how->rights && how->second_rights;
-
 	if (how->second_rights & FFA_MEM_EXEC)
 		return -EINVAL;
-	if (how->lend ? both && !lends_to_both : how->flags & FFA_MEM_CLEAR)
+	if (!how->lend && how->flags & FFA_MEM_CLEAR)
 		return -EINVAL;
 	return 0;
 }

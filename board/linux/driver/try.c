@@ -46,10 +46,6 @@ unsigned int open = 16;
 module_param(open, uint, 0);
 MODULE_PARM_DESC(open, "how many transactions of a sender may be open");
 
-bool lends_to_both;
-module_param(lends_to_both, bool, 0);
-MODULE_PARM_DESC(lends_to_both, "whether the core takes a lend to both without attributes");
-
 unsigned long table_at = 0x40000000;
 module_param(table_at, ulong, 0);
 MODULE_PARM_DESC(table_at, "a page of a table of the core");

@@ -12,10 +12,12 @@
 #include "work.h"
 
 /*
- * Of the kernels that it is built for, 6.12 has a driver of FF-A 1.1. That of 6.1 is one of 1.0: it
- * offers no indirect messages, no cycles and no notifications, and takes FFA_YIELD for no answer.
+ * Of the kernels that it is built for, 6.12 has a driver of FF-A 1.1, and newer ones of 1.2. That of
+ * 6.1 is one of 1.0: it offers no indirect messages, no cycles and no notifications, and takes
+ * FFA_YIELD for no answer.
  */
 #define SPEAKS_1_1 (LINUX_VERSION_CODE >= KERNEL_VERSION(6, 12, 0))
+#define SPEAKS_1_2 (LINUX_VERSION_CODE >= KERNEL_VERSION(7, 0, 0))
 
 /* What the core refused a partition, which says so in its answer. */
 #define REFUSED_INVALID (-2)
@@ -28,9 +30,6 @@ extern struct ffa_device second;
 
 /* What the core takes: ranges of one transaction, and open transactions of a sender. */
 extern unsigned int ranges, open;
-
-/* Whether the core takes a lend to both without attributes, as a machine of FF-A 1.2 does. */
-extern bool lends_to_both;
 
 /* Whether Linux is told whom to run: what it notifies the partner of comes back then. */
 extern bool schedules;

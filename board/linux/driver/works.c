@@ -50,6 +50,17 @@ static enum hrtimer_restart ring(struct hrtimer *timer)
 	return HRTIMER_RESTART;
 }
 
+/* Its timer is its processor's, so that no other one rings for it. */
+static void set_up(struct hrtimer *timer)
+{
+#if SPEAKS_1_2
+	hrtimer_setup(timer, ring, CLOCK_MONOTONIC, HRTIMER_MODE_REL_PINNED);
+#else
+	hrtimer_init(timer, CLOCK_MONOTONIC, HRTIMER_MODE_REL_PINNED);
+	timer->function = ring;
+#endif
+}
+
 static void on_notification(int id, void *data)
 {
 	complete(&back);
@@ -107,15 +118,13 @@ static int run_other(void *data)
 	kthread_complete_and_exit(&of->done, 0);
 }
 
-/* Its timer is its processor's, so that no other one rings for it. */
 static int run_first(void *data)
 {
 	struct hrtimer timer;
 	u64 begin;
 	int error;
 
-	hrtimer_init(&timer, CLOCK_MONOTONIC, HRTIMER_MODE_REL_PINNED);
-	timer.function = ring;
+	set_up(&timer);
 	hrtimer_start(&timer, period, HRTIMER_MODE_REL_PINNED);
 	while (first.requests < wanted && !first.failed) {
 		unsigned int before = READ_ONCE(rings);
