@@ -1,9 +1,9 @@
 -- SPDX-License-Identifier: MIT OR Apache-2.0
 -- What the standard calls the functions and the error codes that registers hold (DEN0077A, 11 to 16).
-use Rattle.std.specs.Prelude.{ℕ, ◌==◌, List, [], ◌∷◌, ◌++◌, Option, None, codes, find, slice_index, if◌then◌else◌}
+use Rattle.std.specs.Prelude.{ℕ, ◌==◌, List, [], ◌∷◌, Option, None, codes, find, slice_index, if◌then◌else◌}
 use Rattle.std.specs.Option.{option_map, option_or}
-use Rattle.ffa_model.specs.declared.function.TheConstants.{FFA_ERROR, FFA_INTERRUPT, FFA_NOTIFICATION_INFO_GET, FFA_NOTIFICATION_INFO_GET_64, FFA_SUCCESS, FFA_MEM_RETRIEVE_RESP, FFA_SUCCESS_64}
-use Rattle.ffa_model.specs.declared.operation.ErrorCode.TheVariants.{NotSupported, InvalidParameters, NoMemory, Busy, Denied}
+use Rattle.ffa_model.specs.declared.function.TheConstants.{FFA_ERROR, FFA_INTERRUPT, FFA_SUCCESS, FFA_MEM_RETRIEVE_RESP, FFA_SUCCESS_64}
+use Rattle.ffa_model.specs.declared.operation.ErrorCode.TheVariants.{NotSupported, InvalidParameters, NoMemory, Busy, Denied, NoData}
 use Rattle.ffa_model.specs.Calls.{code_number}
 use Rattle.ffa_model.specs.Registers.{low}
 use Rattle.ffa_model.specs.Rows.{row_of}
@@ -22,20 +22,6 @@ answer_names =
     ∷ (FFA_MEM_RETRIEVE_RESP, codes "FFA_MEM_RETRIEVE_RESP")
     ∷ []
 
--- the call that only a machine of several processors serves, in its two forms
-abbrev pub notice_names : List Row
-notice_names =
-    (FFA_NOTIFICATION_INFO_GET, codes "FFA_NOTIFICATION_INFO_GET")
-    ∷ (FFA_NOTIFICATION_INFO_GET_64, codes "FFA_NOTIFICATION_INFO_GET")
-    ∷ []
-
-abbrev pub other_names : List Row
-other_names = answer_names ++ notice_names
-
--- there is nothing to tell, as 32 bits of two's complement
-abbrev pub no_data : ℕ
-no_data = 0xFFFFFFF7
-
 -- why a call is refused, by the number that stands in w2, which is 32 bits of two's complement (DEN0077A, 11.2)
 abbrev pub error_names : List Row
 error_names =
@@ -47,7 +33,7 @@ error_names =
     ∷ (code_number Denied, codes "DENIED")
     ∷ (0xFFFFFFF9, codes "RETRY")
     ∷ (0xFFFFFFF8, codes "ABORTED")
-    ∷ (no_data, codes "NO_DATA")
+    ∷ (code_number NoData, codes "NO_DATA")
     ∷ []
 
 -- the name in the first row that has the number
@@ -57,7 +43,7 @@ name_in rows number = option_map (λ row. row.1) (find (λ row. row.0 == number)
 -- the name of the function that the low half of x0 identifies
 unfoldable pub call_name_of : List ℕ → Option (List ℕ)
 call_name_of x =
-    option_or (option_map (λ row. row.name) (row_of (low (slice_index x 0)))) (name_in other_names (low (slice_index x 0)))
+    option_or (option_map (λ row. row.name) (row_of (low (slice_index x 0)))) (name_in answer_names (low (slice_index x 0)))
 
 -- the name of the code of an FFA_ERROR: of any other call w2 is no code
 unfoldable pub error_name_of : List ℕ → Option (List ℕ)

@@ -3,7 +3,7 @@
 ghost use Rattle.std.specs.Prelude.{◌≡◌, ◌<◌, is_some, slice_index};
 ghost use Rattle.std.specs.Option.{unwrap_or};
 ghost use Rattle.ffa_model.specs.Bits.{high_half, is_set, low_half, word_of_halves};
-ghost use Rattle.ffa_model.specs.Registers.{additions, decode, functions, high_endpoint, is_function, low, low_endpoint, memory, messages, notifications, setup};
+ghost use Rattle.ffa_model.specs.Registers.{additions, decode, functions, high_endpoint, is_function, low, low_endpoint, memory, messages, notices, notifications, setup};
 ghost use Rattle.ffa_abi.specs.Parts.{called_in, bits_of_call, message_of, payload_of, transfer_of, widest};
 ghost use Rattle.ffa_abi.specs.Widths.{is_read_whole, is_widened};
 
@@ -277,6 +277,19 @@ fn addition(registers: &[u64; 8], call: &mut Call) -> bool
     true
 }
 
+// Whether the call is of notices.
+fn notice(registers: &[u64; 8], call: &mut Call) -> bool
+    ensures found { result ≡ is_some (called_in notices registers.now) }
+    ensures call { call.new ≡ unwrap_or (called_in notices registers.now) call.old }
+{
+    match w(registers, 0) {
+        FFA_NOTIFICATION_INFO_GET => *call = Call::NotificationInfoGet { is_wide: false },
+        FFA_NOTIFICATION_INFO_GET_64 => *call = Call::NotificationInfoGet { is_wide: true },
+        _ => return false,
+    }
+    true
+}
+
 /// The call that the registers x0 to x7 hold. The low half of x0 names it; its other arguments are low halves of
 /// registers, but for those that the 64-bit form of a call widens.
 pub fn decode(x: [u64; 8]) -> Call
@@ -307,6 +320,7 @@ fn is_called(registers: &[u64; 8], call: &mut Call) -> bool
         || memory(registers, call)
         || notification(registers, call)
         || addition(registers, call)
+        || notice(registers, call)
 }
 
 /// Whether the call that the registers hold reads this one whole, as its 64-bit form does some, or the low half alone.
@@ -368,5 +382,7 @@ pub fn is_function(function: u32) -> bool
             | FFA_NOTIFICATION_GET
             | FFA_SPM_ID_GET
             | FFA_MSG_SEND2
+            | FFA_NOTIFICATION_INFO_GET
+            | FFA_NOTIFICATION_INFO_GET_64
     )
 }

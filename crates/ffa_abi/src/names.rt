@@ -3,12 +3,11 @@
 ghost use Rattle.std.specs.Prelude.{◌≡◌, ◌≤◌, length, option_map};
 ghost use Rattle.ffa_model.specs.Registers.{low};
 ghost use Rattle.ffa_model.specs.Rows.{place_in_rows, row_of, rows, told};
-ghost use Rattle.ffa_abi.specs.Names.{call_name_of, error_name_of, error_names, name_in, other_names};
+ghost use Rattle.ffa_abi.specs.Names.{answer_names, call_name_of, error_name_of, error_names, name_in};
 
 use crate::call::low;
 use ffa_model::function::{
-    FFA_ERROR, FFA_INTERRUPT, FFA_MEM_RETRIEVE_RESP, FFA_NOTIFICATION_INFO_GET,
-    FFA_NOTIFICATION_INFO_GET_64, FFA_SUCCESS, FFA_SUCCESS_64, WIDE,
+    FFA_ERROR, FFA_INTERRUPT, FFA_MEM_RETRIEVE_RESP, FFA_SUCCESS, FFA_SUCCESS_64, WIDE,
 };
 use ffa_model::{CALLS, CallRow};
 
@@ -39,7 +38,7 @@ pub fn call_place(function: u32) -> usize
 }
 
 /// The name of the call that these registers are, in either form that the call has. The low half of x0 identifies it: None
-/// where that is no function identifier that a machine of one processor or of several knows, as where it is a version.
+/// where that is no function identifier that a machine knows, as where it is a version.
 #[tactic(auto, unfolding(crate::specs::Names::call_name_of))]
 pub fn call_name(x: &[u64; 8]) -> Option<&'static str>
     ensures { option_map (λ name. name.now) result ≡ call_name_of x.now }
@@ -51,16 +50,15 @@ pub fn call_name(x: &[u64; 8]) -> Option<&'static str>
     }
 }
 
-// The name of what a caller sees, and is no call; and of the call that only a machine of several processors serves.
+// The name of what a caller sees, and is no call.
 fn other_name(function: u32) -> Option<&'static str>
-    ensures { option_map (λ name. name.now) result ≡ name_in other_names function }
+    ensures { option_map (λ name. name.now) result ≡ name_in answer_names function }
 {
     let name = match function {
         FFA_ERROR => "FFA_ERROR",
         FFA_SUCCESS | FFA_SUCCESS_64 => "FFA_SUCCESS",
         FFA_INTERRUPT => "FFA_INTERRUPT",
         FFA_MEM_RETRIEVE_RESP => "FFA_MEM_RETRIEVE_RESP",
-        FFA_NOTIFICATION_INFO_GET | FFA_NOTIFICATION_INFO_GET_64 => "FFA_NOTIFICATION_INFO_GET",
         _ => return None,
     };
     Some(name)

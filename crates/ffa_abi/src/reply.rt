@@ -5,7 +5,7 @@ ghost use Rattle.ffa_model.specs.Bits.{bits, word_of_two};
 ghost use Rattle.ffa_model.specs.Calls.{code_number, encode};
 ghost use Rattle.ffa_model.specs.declared.call.Reply.{Reply};
 
-use ffa_model::function::{FFA_ERROR, FFA_MEM_RETRIEVE_RESP, FFA_SUCCESS};
+use ffa_model::function::{FFA_ERROR, FFA_MEM_RETRIEVE_RESP, FFA_SUCCESS, FFA_SUCCESS_64};
 use ffa_model::{DirectMessage, EndpointId, ErrorCode, Handle, Reply};
 
 // FF-A's number of a code, as 32 bits of two's complement (DEN0077A, 11.2).
@@ -19,6 +19,7 @@ fn code_number(code: ErrorCode) -> u32
         ErrorCode::NoMemory => 0xFFFF_FFFD,
         ErrorCode::Busy => 0xFFFF_FFFC,
         ErrorCode::Denied => 0xFFFF_FFFA,
+        ErrorCode::NoData => 0xFFFF_FFF7,
     }
 }
 
@@ -124,6 +125,9 @@ pub fn encode_into(reply: &Reply, x: &mut [u64; 8])
             *x = [u64::from(FFA_ERROR), 0, w2, 0, 0, 0, 0, 0]
         }
         Reply::Success(results) => *x = success_registers(*results),
+        Reply::WideSuccess([x2, x3, x4, x5, x6, x7]) => {
+            *x = [u64::from(FFA_SUCCESS_64), 0, *x2, *x3, *x4, *x5, *x6, *x7]
+        }
         Reply::Sent(handle) => *x = handle_registers(*handle),
         Reply::Pending {
             partitions,

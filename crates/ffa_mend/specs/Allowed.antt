@@ -1,7 +1,7 @@
 -- SPDX-License-Identifier: MIT OR Apache-2.0
 -- Which values a register or a field of a descriptor may have, where a check that fails wants others than it has (DEN0077A, 5.11
 -- and 11 to 16). Each is a set of numbers.
-use Rattle.std.specs.Prelude.{◌≡◌, ◌≤◌, ℕ, ◌+◌, ◌-◌, ◌*◌, ◌%◌, ◌==◌, is_none, nat_le, List, length, Option, Some, None, if◌then◌else◌}
+use Rattle.std.specs.Prelude.{◌≡◌, ◌≤◌, ℕ, ◌+◌, ◌-◌, ◌*◌, ◌%◌, ◌==◌, ◌&&◌, is_none, nat_le, List, length, Option, Some, None, if◌then◌else◌}
 use Rattle.std.specs.Option.{option_and_then, option_map}
 use Rattle.ffa_model.specs.declared.call.Call.{Call}
 use Rattle.ffa_model.specs.declared.call.Call.TheVariants as calls
@@ -15,12 +15,12 @@ use Rattle.ffa_model.specs.declared.flaw.CompositeFlaw.TheVariants.{Outside, Una
 use Rattle.ffa_model.specs.declared.flaw.RangeFlaw.TheVariants.{Reserved as RangeReserved}
 use Rattle.ffa_model.specs.declared.flaw.RetrieveFlaw.TheVariants.{Attributes as AskedAttributes, AccessCount, AccessFlags as AskedAccessFlags, CompositeTold, AccessReserved as AskedAccessReserved}
 use Rattle.ffa_model.specs.declared.flaw.RelinquishFlaw.TheVariants.{Flags as RelinquishFlags, EndpointCount}
-use Rattle.ffa_model.specs.declared.limits.TheConstants.{MOST_BUFFER_PAGES, MOST_RANGES}
+use Rattle.ffa_model.specs.declared.limits.TheConstants.{MOST_BUFFER_PAGES, MOST_PROCESSORS, MOST_RANGES, MOST_RECEIVERS}
 use Rattle.ffa_model.specs.declared.refusal.Refusal.{Refusal}
 use Rattle.ffa_model.specs.declared.refusal.Refusal.TheVariants.{FlagsReserved, ContextUnknown, BufferPageCount, EndpointNotZero, EndpointNotNormalWorld, ContextCount, ClassesUnknown, Fragmented, BufferAddressGiven, BufferPagesGiven}
 use Rattle.ffa_model.specs.declared.endpoint.Version.{Version}
 use Rattle.ffa_model.specs.declared.manifest.Ffa.{Ffa}
-use Rattle.ffa_model.specs.declared.manifest.Ffa.TheVariants.{V1_2}
+use Rattle.ffa_model.specs.declared.manifest.Ffa.TheVariants.{V1_1, V1_2}
 use Rattle.ffa_model.specs.declared.rights.Kind.{Kind}
 use Rattle.ffa_model.specs.declared.rights.Kind.TheVariants.{Share, Lend, Donate}
 use Rattle.ffa_model.specs.declared.why.About.{About}
@@ -53,10 +53,12 @@ between least most = steps least most 1
 abbrev pub either : ℕ → ℕ → Allowed
 either a b = steps a b (b - a)
 
--- REGISTERS, where the normal world has so many execution contexts, and each partition one
+-- REGISTERS
 
-abbrev pub contexts_of : ℕ → Identifier → ℕ
-contexts_of contexts e = if e == 0 then contexts else 1
+-- how many execution contexts an endpoint has: the normal world of FF-A 1.2 as many as there may be processors, and else one
+abbrev pub contexts_of : Ffa → Identifier → ℕ
+contexts_of V1_1 e = 1
+contexts_of V1_2 e = if e == 0 then MOST_PROCESSORS else 1
 
 abbrev pub allowed_flags : Call → Allowed
 allowed_flags (calls.MemReclaim handle flags) = between 0 1
@@ -64,13 +66,13 @@ allowed_flags (calls.NotificationSet its) = either 0 2
 allowed_flags call = one 0
 
 -- the same endpoint, in each of its contexts
-abbrev pub allowed_contexts : ℕ → Identifier → Allowed
-allowed_contexts contexts e = steps e (word_of_two (contexts_of contexts e - 1) e) 0x10000
+abbrev pub allowed_contexts : Ffa → Identifier → Allowed
+allowed_contexts ffa e = steps e (word_of_two (contexts_of ffa e - 1) e) 0x10000
 
-abbrev pub allowed_context : ℕ → Call → Option Allowed
-allowed_context contexts (calls.Run target context) = Some (one (word_of_two target.0 0))
-allowed_context contexts (calls.NotificationGet receiver context flags) = Some (allowed_contexts contexts receiver.0)
-allowed_context contexts call = None
+abbrev pub allowed_context : Ffa → Call → Option Allowed
+allowed_context ffa (calls.Run target context) = Some (one (word_of_two target.0 0))
+allowed_context ffa (calls.NotificationGet receiver context flags) = Some (allowed_contexts ffa receiver.0)
+allowed_context ffa call = None
 
 -- as many bytes as the descriptor has
 abbrev pub allowed_fragment : Call → Option Allowed
@@ -80,18 +82,18 @@ allowed_fragment (calls.MemShare transfer) = Some (one transfer.total)
 allowed_fragment (calls.MemRetrieve transfer) = Some (one transfer.total)
 allowed_fragment call = None
 
-abbrev pub allowed_register : ℕ → Call → Refusal → Option Allowed
-allowed_register contexts call FlagsReserved = Some (allowed_flags call)
-allowed_register contexts call ContextUnknown = allowed_context contexts call
-allowed_register contexts call Fragmented = allowed_fragment call
-allowed_register contexts call BufferPageCount = Some (between 1 MOST_BUFFER_PAGES)
-allowed_register contexts call EndpointNotZero = Some (one 0)
-allowed_register contexts call EndpointNotNormalWorld = Some (one 0)
-allowed_register contexts call ContextCount = Some (between 1 contexts)
-allowed_register contexts call ClassesUnknown = Some (between 0 15)
-allowed_register contexts call BufferAddressGiven = Some (one 0)
-allowed_register contexts call BufferPagesGiven = Some (one 0)
-allowed_register contexts call refusal = None
+abbrev pub allowed_register : Ffa → Call → Refusal → Option Allowed
+allowed_register ffa call FlagsReserved = Some (allowed_flags call)
+allowed_register ffa call ContextUnknown = allowed_context ffa call
+allowed_register ffa call Fragmented = allowed_fragment call
+allowed_register ffa call BufferPageCount = Some (between 1 MOST_BUFFER_PAGES)
+allowed_register ffa call EndpointNotZero = Some (one 0)
+allowed_register ffa call EndpointNotNormalWorld = Some (one 0)
+allowed_register ffa call ContextCount = Some (between 1 (contexts_of ffa 0))
+allowed_register ffa call ClassesUnknown = Some (between 0 15)
+allowed_register ffa call BufferAddressGiven = Some (one 0)
+allowed_register ffa call BufferPagesGiven = Some (one 0)
+allowed_register ffa call refusal = None
 
 -- FIELDS of an offer to so many receivers, if its header tells how many, in so many bytes of a form, to a machine of this FF-A
 
@@ -147,16 +149,22 @@ told_receivers buffers e transfer descriptor =
     then if nat_le 32 (length descriptor.bytes) then Some (receiver_count descriptor) else None
     else None
 
--- of a retrieve and a relinquish
-abbrev pub allowed_asked : Flaw → Option Allowed
-allowed_asked (Retrieve i AskedAttributes) = Some (either 0 normal_memory)
-allowed_asked (Retrieve i AccessCount) = Some (one 1)
-allowed_asked (Retrieve i AskedAccessFlags) = Some (one 0)
-allowed_asked (Retrieve i CompositeTold) = Some (one 0)
-allowed_asked (Retrieve i AskedAccessReserved) = Some (one 0)
-allowed_asked (Relinquish RelinquishFlags) = Some (between 0 1)
-allowed_asked (Relinquish EndpointCount) = Some (one 1)
-allowed_asked flaw = None
+-- how many endpoints a retrieve may name that names so many: in FF-A 1.2 several, unless bit 10 of its flags is set, which alone
+-- refuses such a count
+abbrev pub allowed_names : Ffa → ℕ → Allowed
+allowed_names V1_1 count = one 1
+allowed_names V1_2 count = if nat_le 1 count && nat_le count MOST_RECEIVERS then one 1 else between 1 MOST_RECEIVERS
+
+-- of a retrieve and a relinquish, by the value that the field has
+abbrev pub allowed_asked : Ffa → ℕ → Flaw → Option Allowed
+allowed_asked ffa value (Retrieve i AskedAttributes) = Some (either 0 normal_memory)
+allowed_asked ffa value (Retrieve i AccessCount) = Some (allowed_names ffa value)
+allowed_asked ffa value (Retrieve i AskedAccessFlags) = Some (one 0)
+allowed_asked ffa value (Retrieve i CompositeTold) = Some (one 0)
+allowed_asked ffa value (Retrieve i AskedAccessReserved) = Some (one 0)
+allowed_asked ffa value (Relinquish RelinquishFlags) = Some (between 0 1)
+allowed_asked ffa value (Relinquish EndpointCount) = Some (one 1)
+allowed_asked ffa value flaw = None
 
 -- ON A STATE
 
@@ -170,14 +178,14 @@ receivers_of s (calls.MemShare transfer) = receivers_told s transfer
 receivers_of s call = None
 
 -- of an offer to so many receivers, and of other calls
-abbrev pub allowed_field : Ffa → Version → Option ℕ → Call → FieldPlace → Flaw → Option Allowed
-allowed_field ffa version receivers (calls.MemDonate transfer) place flaw = allowed_offer ffa version Donate receivers transfer.total place flaw
-allowed_field ffa version receivers (calls.MemLend transfer) place flaw = allowed_offer ffa version Lend receivers transfer.total place flaw
-allowed_field ffa version receivers (calls.MemShare transfer) place flaw = allowed_offer ffa version Share receivers transfer.total place flaw
-allowed_field ffa version receivers call place flaw = allowed_asked flaw
+abbrev pub allowed_field : Ffa → Version → Option ℕ → Call → FieldPlace → ℕ → Flaw → Option Allowed
+allowed_field ffa version receivers (calls.MemDonate transfer) place value flaw = allowed_offer ffa version Donate receivers transfer.total place flaw
+allowed_field ffa version receivers (calls.MemLend transfer) place value flaw = allowed_offer ffa version Lend receivers transfer.total place flaw
+allowed_field ffa version receivers (calls.MemShare transfer) place value flaw = allowed_offer ffa version Share receivers transfer.total place flaw
+allowed_field ffa version receivers call place value flaw = allowed_asked ffa value flaw
 
 -- a check of a call that fails, where it is about a register, or about a field whose value is told
-abbrev pub allowed_check : ℕ → Ffa → Version → Option ℕ → Call → Refusal → Option About → Option Allowed
-allowed_check contexts ffa version receivers call refusal (Some (Register number value)) = allowed_register contexts call refusal
-allowed_check contexts ffa version receivers call refusal (Some (Field flaw place (Some value))) = allowed_field ffa version receivers call place flaw
-allowed_check contexts ffa version receivers call refusal about = None
+abbrev pub allowed_check : Ffa → Version → Option ℕ → Call → Refusal → Option About → Option Allowed
+allowed_check ffa version receivers call refusal (Some (Register number value)) = allowed_register ffa call refusal
+allowed_check ffa version receivers call refusal (Some (Field flaw place (Some value))) = allowed_field ffa version receivers call place value flaw
+allowed_check ffa version receivers call refusal about = None

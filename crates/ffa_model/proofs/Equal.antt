@@ -5,6 +5,11 @@ use Rattle.std.proofs.lemmas.Bool.{cases_eq, false≢true, true≢false}
 use Rattle.std.proofs.lemmas.Option.{none-some, same_Some}
 use Rattle.ffa_model.specs.declared.schedule.Status.{Status}
 use Rattle.ffa_model.specs.declared.schedule.Work.{Work}
+use Rattle.std.specs.List.{list_any}
+use Rattle.std.specs.Ordering.{eq_by_cmp, nat_cmp}
+use Rattle.std.specs.Cmp.Lexicographic.{slice_cmp}
+use Rattle.std.specs.FinSet as finite_set
+use Rattle.ffa_model.proofs.Sets.{Bits, same_bits}
 use Rattle.ffa_model.specs.Codes.{by_of, status_from, status_number, status_from-number, work_from, work_from-by_of}
 
 -- of a type whose values are told apart as those of another are
@@ -61,3 +66,9 @@ equal_status = equal_by status_number status_from status_from-number equal_numbe
 
 pub equal_work : (a b : Work) → (a ≡ b) ⊎ (a ≢ b)
 equal_work = equal_by by_of work_from work_from-by_of (equal_option equal_number)
+
+pub equal_bits : (a b : Bits) → (a ≡ b) ⊎ (a ≢ b)
+equal_bits a b = elim (equal_list (equal_list equal_number) (finite_set.items a) (finite_set.items b)) [
+  | inl same ↦ inl (same_bits a b (λ x. finite_set.contains-items a x ∙ ap (list_any (eq_by_cmp (slice_cmp nat_cmp) x)) same ∙ sym (finite_set.contains-items b x)))
+  | inr differ ↦ inr (λ is. differ (ap finite_set.items is))
+]

@@ -1,6 +1,6 @@
 -- SPDX-License-Identifier: MIT OR Apache-2.0
 -- What holds of each call that registers hold, by the rows of the definition's table and of the code's.
-use Rattle.std.proofs.Common.{◌≡◌, ℕ, ◌<◌, ◌^◌, Bool, true, false, cond, List, [], ◌∷◌, map, Option, Some, None, refl, sym, ap, arith, ◌==◌, ◌&&◌, ◌||◌, find, slice_index, if◌then◌else◌}
+use Rattle.std.proofs.Common.{◌≡◌, ℕ, ◌<◌, ◌^◌, Bool, true, false, cond, List, [], ◌∷◌, length, map, not, Option, Some, None, refl, sym, ap, arith, ◌==◌, ◌&&◌, ◌||◌, find, slice_index, if◌then◌else◌}
 use Rattle.std.specs.List.{list_any}
 use Rattle.std.specs.Option.{option_map_or}
 use Rattle.std.proofs.lemmas.Bool.{not-true}
@@ -21,13 +21,16 @@ use Rattle.ffa_model.specs.declared.call.Transfer.{Transfer}
 use Rattle.ffa_model.specs.HypervisorRetrieve.{asks_back, retrieve_by}
 use Rattle.ffa_model.specs.MemoryReturn.{relinquish_read}
 use Rattle.ffa_model.specs.MemorySend.{send_read}
+use Rattle.ffa_model.specs.declared.function.TheConstants.{FFA_NOTIFICATION_INFO_GET}
+use Rattle.ffa_model.specs.Notices.{endpoints_to_tell, notice_reply}
+use Rattle.ffa_model.specs.Notifications.{notifications_of}
 use Rattle.ffa_model.specs.Refusals.{is_error, passes_no_error}
-use Rattle.ffa_model.specs.Registers.{Function, called, decode, function_of, functions, is_form_of, is_function, low, transfer, wide_of}
+use Rattle.ffa_model.specs.Registers.{Function, called, decode, function_of, functions, is_form_of, low, transfer, wide_of}
 use Rattle.ffa_model.specs.Rows.{Row, is_row_of, is_wide, row_of, rows}
 use Rattle.ffa_model.specs.RunStates.{run_reply, schedule_of, status_in}
 use Rattle.ffa_model.specs.declared.manifest.Ffa.{Ffa}
 use Rattle.ffa_model.specs.declared.manifest.Ffa.TheVariants as served
-use Rattle.ffa_model.specs.Setup.{version_answer}
+use Rattle.ffa_model.specs.Setup.{may_call, version_answer}
 use Rattle.ffa_model.specs.State.{State, buffers_of}
 use Rattle.ffa_model.specs.Step.{service}
 use Rattle.ffa_model.specs.Transactions.{open_of, scene_of}
@@ -53,6 +56,11 @@ answer-no-error served.V1_2 s word = later-no-error _
 feature-no-error : (properties : ℕ) (served : Bool) → first_failure ((served, FunctionUnknown) ∷ []) ≡ None → is_error (cond served (success properties 0) (Error NotSupported)) ≡ false
 feature-no-error properties true none = refl
 feature-no-error properties false none = absurd (none-some NotSupported (sym none))
+
+-- the answer of FFA_NOTIFICATION_INFO_GET is seen as FFA_SUCCESS
+pub notice-no-error : (ids : List ℕ) (is_wide : Bool) → is_error (notice_reply is_wide ids) ≡ false
+notice-no-error ids true = refl
+notice-no-error ids false = refl
 
 retrieve-no-error : (s : State) (x : Transfer) (back : Bool) → is_error (retrieve_by back s x).reply ≡ false
 retrieve-no-error s x true = refl
@@ -93,7 +101,7 @@ a ▸ b = (a, b)
 functions-served : AreAll IsServed functions rows
 functions-served =
     (λ w x form. refl, λ w x. refl, λ s w x. (0, refl), λ s w x named none. answer-no-error s.ffa s (w 1), λ w x narrow. tt)
-    ▸ (λ w x form. refl, λ w x. refl, λ s w x. (0, refl), λ s w x named none. feature-no-error _ (is_function (w 1)) none, λ w x narrow. tt)
+    ▸ (λ w x form. refl, λ w x. refl, λ s w x. (0, refl), λ s w x named none. feature-no-error _ (may_call s.ffa s.runner (w 1)) none, λ w x narrow. tt)
     ▸ (λ w x form. refl, λ w x. refl, λ s w x. (0, refl), λ s w x named none. refl, λ w x narrow. tt)
     ▸ (λ w x form. refl, λ w x. refl, λ s w x. (0, refl), λ s w x named none. refl, λ w x narrow. tt)
     ▸ (λ w x form. refl, λ w x. refl, λ s w x. (0, refl), λ s w x named none. refl, λ w x narrow. tt)
@@ -118,6 +126,7 @@ functions-served =
     ▸ (λ w x form. refl, λ w x. refl, λ s w x. (0, refl), λ s w x named none. refl, λ w x narrow. tt)
     ▸ (λ w x form. refl, λ w x. refl, λ s w x. (0, refl), λ s w x named none. refl, λ w x narrow. tt)
     ▸ (λ w x form. refl, λ w x. refl, λ s w x. (0, refl), λ s w x named none. refl, λ w x narrow. tt)
+    ▸ (λ w x form. refl, λ w x. refl, λ s w x. (0, refl), λ s w x named none. notice-no-error (endpoints_to_tell (length s.parties) (notifications_of s)) (not (w 0 == FFA_NOTIFICATION_INFO_GET)), λ w x narrow. tt)
     ▸ tt
 
 -- the identifier, and whether there is a 64-bit form

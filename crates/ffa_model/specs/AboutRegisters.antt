@@ -4,13 +4,13 @@
 -- UUID and of an empty bitmap, which stand in more than one, tell nothing.
 use Rattle.std.specs.Prelude.{ℕ, Option, Some, None}
 use Rattle.ffa_model.specs.declared.call.Call.{Call}
-use Rattle.ffa_model.specs.declared.call.Call.TheVariants.{Features, RxtxMap, RxtxUnmap, Run, DirectRequest, DirectResponse, MemDonate, MemLend, MemShare, MemRetrieve, MemReclaim, BitmapCreate, BitmapDestroy, NotificationBind, NotificationUnbind, NotificationSet, NotificationGet, Unknown}
+use Rattle.ffa_model.specs.declared.call.Call.TheVariants.{Features, RxtxMap, RxtxUnmap, Run, DirectRequest, DirectResponse, MemDonate, MemLend, MemShare, MemRetrieve, MemReclaim, BitmapCreate, BitmapDestroy, NotificationBind, NotificationUnbind, NotificationSet, NotificationGet, NotificationInfoGet, Unknown}
 use Rattle.ffa_model.specs.declared.call.DirectMessage.{DirectMessage}
 use Rattle.ffa_model.specs.declared.call.NotificationBits.{NotificationBits}
 use Rattle.ffa_model.specs.declared.call.Transfer.{Transfer}
 use Rattle.ffa_model.specs.declared.endpoint.EndpointId.{EndpointId}
 use Rattle.ffa_model.specs.declared.refusal.Refusal.{Refusal}
-use Rattle.ffa_model.specs.declared.refusal.Refusal.TheVariants.{FlagsReserved, SenderIsAnother, ReceiverIsAnother, ReceiverUnknown, ReceiverIsCaller, ContextUnknown, BufferPageCount, TxMisplaced, RxMisplaced, BuffersOverlap, EndpointNotZero, ReceiverIsNormalWorld, RequestsUnreceived, ReceiverNotWaiting, AnswerMisdirected, TargetUnknown, TargetNotReady, EndpointNotNormalWorld, ContextCount, SenderUnknown, SenderIsCaller, ClassesUnknown, Fragmented, DescriptorTooLong, BufferAddressGiven, BufferPagesGiven, NotTheSenders, StillHeld}
+use Rattle.ffa_model.specs.declared.refusal.Refusal.TheVariants.{FunctionUnknown, FlagsReserved, SenderIsAnother, ReceiverIsAnother, ReceiverUnknown, ReceiverIsCaller, ContextUnknown, BufferPageCount, TxMisplaced, RxMisplaced, BuffersOverlap, EndpointNotZero, ReceiverIsNormalWorld, RequestsUnreceived, ReceiverNotWaiting, AnswerMisdirected, TargetUnknown, TargetNotReady, EndpointNotNormalWorld, ContextCount, SenderUnknown, SenderIsCaller, ClassesUnknown, Fragmented, DescriptorTooLong, BufferAddressGiven, BufferPagesGiven, NotTheSenders, StillHeld}
 use Rattle.ffa_model.specs.declared.transaction.Handle as handles
 use Rattle.ffa_model.specs.declared.why.About.{About}
 use Rattle.ffa_model.specs.declared.why.About.TheVariants.{Endpoint, Handle, Register}
@@ -134,5 +134,6 @@ about_registers w0 (MemLend transfer) refusal = registers_of_transfer transfer r
 about_registers w0 (MemShare transfer) refusal = registers_of_transfer transfer refusal
 about_registers w0 (MemRetrieve transfer) refusal = registers_of_transfer transfer refusal
 about_registers w0 (MemReclaim handle flags) refusal = registers_of_reclaim handle flags refusal
+about_registers w0 (NotificationInfoGet is_wide) FunctionUnknown = in_register 0 w0
 about_registers w0 Unknown refusal = in_register 0 w0
 about_registers w0 call refusal = registers_of_notification call refusal

@@ -2,12 +2,12 @@
 -- The form of each call: guards in order, and what changes where none fails.
 use Rattle.std.specs.Prelude.{ℕ, Bool, List, [], ◌∷◌, ◌++◌, Option, Some, None, if◌then◌else◌, replicate}
 use Rattle.ffa_model.specs.declared.operation.ErrorCode.{ErrorCode}
-use Rattle.ffa_model.specs.declared.operation.ErrorCode.TheVariants.{NotSupported, InvalidParameters, NoMemory, Busy, Denied}
+use Rattle.ffa_model.specs.declared.operation.ErrorCode.TheVariants.{NotSupported, InvalidParameters, NoMemory, Busy, Denied, NoData}
 use Rattle.ffa_model.specs.declared.operation.Outcome.{Outcome}
 use Rattle.ffa_model.specs.declared.operation.Outcome.TheVariants.{Regs}
 use Rattle.ffa_model.specs.declared.call.Reply.{Reply}
-use Rattle.ffa_model.specs.declared.call.Reply.TheVariants.{Version, Error, Success, Sent, Pending, Passed, Scheduled, Retrieved}
-use Rattle.ffa_model.specs.declared.function.TheConstants.{FFA_ERROR, FFA_SUCCESS, FFA_MEM_RETRIEVE_RESP}
+use Rattle.ffa_model.specs.declared.call.Reply.TheVariants.{Version, Error, Success, WideSuccess, Sent, Pending, Passed, Scheduled, Retrieved}
+use Rattle.ffa_model.specs.declared.function.TheConstants.{FFA_ERROR, FFA_SUCCESS, FFA_SUCCESS_64, FFA_MEM_RETRIEVE_RESP}
 use Rattle.ffa_model.specs.declared.refusal.Refusal.{Refusal}
 use Rattle.ffa_model.specs.Bits.{bits, word_of_two}
 use Rattle.ffa_model.specs.State.{State}
@@ -30,6 +30,7 @@ code_number InvalidParameters = 0xFFFFFFFE
 code_number NoMemory = 0xFFFFFFFD
 code_number Busy = 0xFFFFFFFC
 code_number Denied = 0xFFFFFFFA
+code_number NoData = 0xFFFFFFF7
 
 -- a word in two registers
 abbrev pub halves : ℕ → List ℕ
@@ -41,6 +42,7 @@ abbrev pub encode : Reply → List ℕ
 encode (Version version) = version ∷ replicate 7 0
 encode (Error code) = FFA_ERROR ∷ 0 ∷ code_number code ∷ replicate 5 0
 encode (Success results) = FFA_SUCCESS ∷ 0 ∷ results
+encode (WideSuccess results) = FFA_SUCCESS_64 ∷ 0 ∷ results
 encode (Sent handle) = FFA_SUCCESS ∷ 0 ∷ halves handle.0 ++ replicate 4 0
 encode (Pending partitions normal_world manager) =
     FFA_SUCCESS ∷ 0 ∷ halves partitions ++ halves normal_world ++ bits 31 0 manager ∷ 0 ∷ []

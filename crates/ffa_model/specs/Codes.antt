@@ -170,9 +170,9 @@ coded_bits = finite_set.code (coded_list coded_ℕ)
 
 abbrev pub coded_state : Coded State
 coded_state =
-    code_by (ℕ × (ℕ × (List Party × (Option (List Region) × (List (Option Page) × (map.FinMap nat_cmp Transaction × (List ℕ × (List (Option Buffers) × (ℕ × (List Status × (List (Option Work) × (List Bool × (finite_set.FinSet (slice_cmp nat_cmp) × (finite_set.FinSet (slice_cmp nat_cmp) × (Ffa × List Version)))))))))))))))
-    (coded× coded_ℕ (coded× coded_ℕ (coded× (coded_list coded_party) (coded× (coded_option (coded_list coded_region)) (coded× (coded_list (coded_option coded_page)) (coded× (map.code coded_ℕ coded_transaction) (coded× (coded_list coded_ℕ) (coded× (coded_list (coded_option coded_buffers)) (coded× coded_ℕ (coded× (coded_list coded_status) (coded× (coded_list (coded_option coded_work)) (coded× (coded_list coded_bool) (coded× coded_bits (coded× coded_bits (coded× coded_ffa (coded_list coded_version))))))))))))))))
-    (λ s. (s.ram_base, (s.tables, (s.parties, (s.normal, (s.pages, (s.transactions, (s.sent, (s.buffers, (s.runner, (s.statuses, (s.works, (s.bitmaps, (s.bound, (s.pending, (s.ffa, s.versions))))))))))))))))
+    code_by (ℕ × (ℕ × (List Party × (Option (List Region) × (List (Option Page) × (map.FinMap nat_cmp Transaction × (List ℕ × (List (Option Buffers) × (ℕ × (List Status × (List (Option Work) × (List Bool × (finite_set.FinSet (slice_cmp nat_cmp) × (finite_set.FinSet (slice_cmp nat_cmp) × (finite_set.FinSet (slice_cmp nat_cmp) × (Ffa × List Version))))))))))))))))
+    (coded× coded_ℕ (coded× coded_ℕ (coded× (coded_list coded_party) (coded× (coded_option (coded_list coded_region)) (coded× (coded_list (coded_option coded_page)) (coded× (map.code coded_ℕ coded_transaction) (coded× (coded_list coded_ℕ) (coded× (coded_list (coded_option coded_buffers)) (coded× coded_ℕ (coded× (coded_list coded_status) (coded× (coded_list (coded_option coded_work)) (coded× (coded_list coded_bool) (coded× coded_bits (coded× coded_bits (coded× coded_bits (coded× coded_ffa (coded_list coded_version)))))))))))))))))
+    (λ s. (s.ram_base, (s.tables, (s.parties, (s.normal, (s.pages, (s.transactions, (s.sent, (s.buffers, (s.runner, (s.statuses, (s.works, (s.bitmaps, (s.bound, (s.pending, (s.notices, (s.ffa, s.versions)))))))))))))))))
     (λ p. record {
       ram_base = p.0;
       tables = p.1.0;
@@ -188,8 +188,9 @@ coded_state =
       bitmaps = p.1.1.1.1.1.1.1.1.1.1.1.0;
       bound = p.1.1.1.1.1.1.1.1.1.1.1.1.0;
       pending = p.1.1.1.1.1.1.1.1.1.1.1.1.1.0;
-      ffa = p.1.1.1.1.1.1.1.1.1.1.1.1.1.1.0;
-      versions = p.1.1.1.1.1.1.1.1.1.1.1.1.1.1.1;
+      notices = p.1.1.1.1.1.1.1.1.1.1.1.1.1.1.0;
+      ffa = p.1.1.1.1.1.1.1.1.1.1.1.1.1.1.1.0;
+      versions = p.1.1.1.1.1.1.1.1.1.1.1.1.1.1.1.1;
     })
     (λ _. refl)
 
@@ -200,5 +201,5 @@ coded_schedule =
 
 abbrev pub coded_notifications : Coded Notifications
 coded_notifications =
-    code_by (List Bool × (finite_set.FinSet (slice_cmp nat_cmp) × finite_set.FinSet (slice_cmp nat_cmp))) (coded× (coded_list coded_bool) (coded× coded_bits coded_bits))
-    (λ n. (n.bitmaps, (n.bound, n.pending))) (λ p. record { bitmaps = p.0; bound = p.1.0; pending = p.1.1 }) (λ _. refl)
+    code_by (List Bool × (finite_set.FinSet (slice_cmp nat_cmp) × (finite_set.FinSet (slice_cmp nat_cmp) × finite_set.FinSet (slice_cmp nat_cmp)))) (coded× (coded_list coded_bool) (coded× coded_bits (coded× coded_bits coded_bits)))
+    (λ n. (n.bitmaps, (n.bound, (n.pending, n.notices)))) (λ p. record { bitmaps = p.0; bound = p.1.0; pending = p.1.1.0; notices = p.1.1.1 }) (λ _. refl)

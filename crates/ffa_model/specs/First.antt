@@ -34,7 +34,7 @@ first_status (suc i) = Waiting
 abbrev pub has_first_bitmaps : ℕ × Endpoint → Bool
 has_first_bitmaps endpoint = not (endpoint.0 == 0) && is_set 3 endpoint.1.properties.0
 
--- all bytes are 0, nothing is open, sent, mapped, bound or pending
+-- all bytes are 0, nothing is open, sent, mapped, bound, pending or to be told
 unfoldable pub first : Ffa → ℕ → PageIndex → ℕ → List Endpoint → State
 first ffa base tables blocks es =
     record {
@@ -54,6 +54,7 @@ first ffa base tables blocks es =
       bitmaps = map has_first_bitmaps (enumerate_from 0 es);
       bound = finite_set.empty;
       pending = finite_set.empty;
+      notices = finite_set.empty;
     }
 
 -- the same where the pages of regions have these bytes, and not zeros

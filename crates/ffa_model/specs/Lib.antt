@@ -26,6 +26,7 @@ pub mod Buffers
 pub mod Setup
 pub mod RunStates
 pub mod Sound
+pub mod Notices
 pub mod Notifications
 pub mod Numbers
 pub mod Messages

@@ -12,7 +12,7 @@ use Rattle.ffa_model.specs.State.{State, Party, Buffers, buffers_of, is_known_am
 use Rattle.ffa_model.specs.Ram.{number_in}
 use Rattle.ffa_model.specs.Memory.{run_bytes}
 use Rattle.ffa_model.specs.Buffers.{filled, is_full, buffers_in, room_of}
-use Rattle.ffa_model.specs.Notifications.{manager_class, message_bits, notifications_of, with_notifications, with_pending}
+use Rattle.ffa_model.specs.Notifications.{manager_class, message_bits, notifications_of, with_notifications, with_set}
 use Rattle.ffa_model.specs.Calls.{Service, success}
 
 -- what is read of the header of a message, in its first 20 bytes
@@ -70,7 +70,7 @@ tx_bytes s e = option_map_or (λ (b : Buffers). run_bytes s b.tx b.pages) (buffe
 
 abbrev pub delivered : State → Identifier → List ℕ → State
 delivered s receiver message =
-    with_notifications (filled s receiver message) (with_pending (notifications_of s) receiver manager_class message_bits)
+    with_notifications (filled s receiver message) (with_set (notifications_of s) receiver manager_class message_bits)
 
 abbrev pub msg_send2 : State → Service
 msg_send2 s =

@@ -25,6 +25,7 @@ pub record Notifications : Type 0 where
   pub bitmaps : List Bool  -- by endpoint, whether it has bitmaps
   pub bound : finite_set.FinSet (slice_cmp nat_cmp)
   pub pending : finite_set.FinSet (slice_cmp nat_cmp)
+  pub notices : finite_set.FinSet (slice_cmp nat_cmp)
 
 -- The classes of a receiver's bits, by who sets them: a partition, the normal world, or the manager. The flags of
 -- FFA_NOTIFICATION_GET ask for class k by bit k
@@ -47,6 +48,11 @@ binding receiver class bit sender = receiver ∷ class ∷ bit ∷ sender ∷ []
 
 abbrev pub receiver_bit : Identifier → Class → Bit → List ℕ
 receiver_bit receiver class bit = receiver ∷ class ∷ bit ∷ []
+
+-- An entry of `notices` lists a receiver and a class: a bit of the class became pending that the normal world has not been
+-- told of, and the receiver has not got
+abbrev pub notice : Identifier → Class → List ℕ
+notice receiver class = receiver ∷ class ∷ []
 
 abbrev pub receiver_of_entry : List ℕ → Identifier
 receiver_of_entry entry = slice_index entry 0
@@ -101,10 +107,30 @@ with_pending n receiver class ks =
           else n.pending;
     }
 
--- the classes of a receiver that the flags ask for have no pending bit
+-- whether one of these bits of a receiver that has bitmaps isn't pending yet
+abbrev pub is_news : Notifications → Identifier → Class → List ℕ → Bool
+is_news n receiver class ks = has_bitmaps_in n receiver && list_any (λ k. not (is_pending n receiver class k)) ks
+
+-- there is a notice of these bits, if they are news
+abbrev pub with_notice : Notifications → Identifier → Class → List ℕ → Notifications
+with_notice n receiver class ks =
+    record n { notices = if is_news n receiver class ks then finite_set.insert n.notices (notice receiver class) else n.notices }
+
+-- these bits are set: they are pending, and what is new of them is to be told
+abbrev pub with_set : Notifications → Identifier → Class → List ℕ → Notifications
+with_set n receiver class ks = with_pending (with_notice n receiver class ks) receiver class ks
+
+-- whether an entry is of a receiver, and of a class that the flags ask for
+abbrev pub is_got : Identifier → ℕ → List ℕ → Bool
+is_got receiver flags entry = receiver_of_entry entry == receiver && is_set (class_of_entry entry) flags
+
+-- the classes of a receiver that the flags ask for have no pending bit, and nothing of them is to be told
 abbrev pub without_pending : Notifications → Identifier → ℕ → Notifications
 without_pending n receiver flags =
-    record n { pending = finite_set.retain n.pending (λ x. not (receiver_of_entry x == receiver && is_set (class_of_entry x) flags)) }
+    record n {
+      pending = finite_set.retain n.pending (λ x. not (is_got receiver flags x));
+      notices = finite_set.retain n.notices (λ x. not (is_got receiver flags x));
+    }
 
 abbrev pub with_bitmaps : Notifications → Identifier → Notifications
 with_bitmaps n e = record n { bitmaps = slice_set n.bitmaps (place e) true }
@@ -213,10 +239,10 @@ get_reply n receiver flags =
 
 -- ON A STATE
 abbrev pub notifications_of : State → Notifications
-notifications_of s = record { bitmaps = s.bitmaps; bound = s.bound; pending = s.pending }
+notifications_of s = record { bitmaps = s.bitmaps; bound = s.bound; pending = s.pending; notices = s.notices }
 
 abbrev pub with_notifications : State → Notifications → State
-with_notifications s n = record s { bitmaps = n.bitmaps; bound = n.bound; pending = n.pending }
+with_notifications s n = record s { bitmaps = n.bitmaps; bound = n.bound; pending = n.pending; notices = n.notices }
 
 abbrev pub bitmap_create : State → ℕ → ℕ → Service
 bitmap_create s endpoint contexts =
@@ -254,7 +280,7 @@ abbrev pub notification_set : State → NotificationBits → Service
 notification_set s its =
     record {
       guards = set_guards (length s.parties) (notifications_of s) s.runner its;
-      state = with_notifications s (with_pending (notifications_of s) its.receiver.0 (class_of s.runner) (bits_of its.bitmap));
+      state = with_notifications s (with_set (notifications_of s) its.receiver.0 (class_of s.runner) (bits_of its.bitmap));
       reply = success 0 0;
     }
 

@@ -1,9 +1,9 @@
 -- SPDX-License-Identifier: MIT OR Apache-2.0
 -- The error code of each check (DEN0077A, 11.2).
 use Rattle.ffa_model.specs.declared.operation.ErrorCode.{ErrorCode}
-use Rattle.ffa_model.specs.declared.operation.ErrorCode.TheVariants.{NotSupported, InvalidParameters, NoMemory, Busy, Denied}
+use Rattle.ffa_model.specs.declared.operation.ErrorCode.TheVariants.{NotSupported, InvalidParameters, NoMemory, Busy, Denied, NoData}
 use Rattle.ffa_model.specs.declared.refusal.Refusal.{Refusal}
-use Rattle.ffa_model.specs.declared.refusal.Refusal.TheVariants.{FunctionUnknown, NotNormalWorld, RxFull, BuffersMapped, TxUnusable, RxUnusable, RxEmpty, ReceiverIsNormalWorld, RequestsUnsent, RequestsUnreceived, ReceiverNotWaiting, NoRequest, TargetNotReady, NotRun, NobodyToYieldTo, MessagesUnsent, MessagesUnreceived, ReceiverBuffersMissing, ReceiverRxFull, ReceiverRxSmall, BitmapsExist, BitmapsMissing, BitsPending, BitsTaken, BitsNotTheSenders, BitsNotTheCallers, RangeOutside, PageUnsendable, GrantTooMuch, ZerosUnwritable, TransactionsFull, HandlesUsedUp, AlreadyRetrieved, RightTooMuch, NotHeld, ZerosNotAllowed, StillHeld, WorldsMixed, BuffersNeeded}
+use Rattle.ffa_model.specs.declared.refusal.Refusal.TheVariants.{FunctionUnknown, NotNormalWorld, RxFull, BuffersMapped, TxUnusable, RxUnusable, RxEmpty, ReceiverIsNormalWorld, RequestsUnsent, RequestsUnreceived, ReceiverNotWaiting, NoRequest, TargetNotReady, NotRun, NobodyToYieldTo, MessagesUnsent, MessagesUnreceived, ReceiverBuffersMissing, ReceiverRxFull, ReceiverRxSmall, BitmapsExist, BitmapsMissing, BitsPending, BitsTaken, BitsNotTheSenders, BitsNotTheCallers, RangeOutside, PageUnsendable, GrantTooMuch, ZerosUnwritable, TransactionsFull, HandlesUsedUp, AlreadyRetrieved, RightTooMuch, NotHeld, ZerosNotAllowed, StillHeld, WorldsMixed, BuffersNeeded, NothingToTell}
 
 -- a check that is not named here answers INVALID_PARAMETERS
 abbrev pub code_of : Refusal → ErrorCode
@@ -46,4 +46,5 @@ code_of ZerosNotAllowed = Denied
 code_of StillHeld = Denied
 code_of WorldsMixed = Denied
 code_of BuffersNeeded = Denied
+code_of NothingToTell = NoData
 code_of refusal = InvalidParameters

@@ -7,8 +7,8 @@ use Rattle.ffa_model.specs.declared.refusal.Refusal.{Refusal}
 use Rattle.ffa_model.specs.declared.rows.TheConstants.{CALLS}
 use Rattle.ffa_model.specs.Registers.{wide_of}
 
--- a call: the identifier of its 32-bit form, its name, which registers its 64-bit form reads whole, none where it has no such
--- form, and its checks in their order
+-- a call: the identifier of its 32-bit form, its name, which registers its 64-bit form reads or answers whole, none where it has
+-- no such form, and its checks in their order
 pub record Row : Type 0 where
   pub function : ℕ
   pub name : List ℕ

@@ -4,7 +4,7 @@ use Rattle.byteorder.specs.Endian.{little_bytes}
 use Rattle.std.specs.Prelude.{ℕ, ◌+◌, ◌*◌, ◌^◌, ◌==◌, Bool, true, false, not, ◌&&◌, ◌||◌, List, [], ◌∷◌, ◌++◌, length, replicate, is_none, is_some, if◌then◌else◌}
 use Rattle.std.specs.Str.{bytes_eq}
 use Rattle.std.specs.List.{filter, flat_map, enumerate_from}
-use Rattle.ffa_model.specs.declared.function.TheConstants.{FFA_MEM_RETRIEVE_REQ, FFA_MEM_RETRIEVE_REQ_64, FFA_RXTX_MAP, FFA_RXTX_MAP_64}
+use Rattle.ffa_model.specs.declared.function.TheConstants.{FFA_MEM_RETRIEVE_REQ, FFA_MEM_RETRIEVE_REQ_64, FFA_NOTIFICATION_INFO_GET, FFA_NOTIFICATION_INFO_GET_64, FFA_RXTX_MAP, FFA_RXTX_MAP_64}
 use Rattle.ffa_model.specs.declared.limits.TheConstants.{MOST_BUFFER_PAGES}
 use Rattle.ffa_model.specs.declared.endpoint.Version as versions
 use Rattle.ffa_model.specs.declared.endpoint.Version.TheVariants.{Compact, V1_1, V1_2}
@@ -19,6 +19,7 @@ use Rattle.ffa_model.specs.Bits.{bits, is_set}
 use Rattle.ffa_model.specs.Identifiers.{identifier}
 use Rattle.ffa_model.specs.Numbers.{Identifier}
 use Rattle.ffa_model.specs.Manifest.{is_nil}
+use Rattle.ffa_model.specs.Notices.{hears_notices}
 use Rattle.ffa_model.specs.Registers.{is_function}
 use Rattle.ffa_model.specs.State.{State, Party, buffers_of, version_of, with_version}
 use Rattle.ffa_model.specs.Buffers.{filled, is_full}
@@ -79,16 +80,22 @@ feature_properties served.V1_2 e version function =
     else if function == FFA_MEM_RETRIEVE_REQ || function == FFA_MEM_RETRIEVE_REQ_64 then retrieve_properties e version
     else 0
 
+-- whether a caller may make the call that a number identifies: FFA_NOTIFICATION_INFO_GET is for who hears of notices alone
+abbrev pub may_call : Ffa → Identifier → ℕ → Bool
+may_call ffa e function =
+    if function == FFA_NOTIFICATION_INFO_GET || function == FFA_NOTIFICATION_INFO_GET_64 then hears_notices ffa e
+    else is_function function
+
 abbrev pub features_reply : Ffa → Identifier → versions.Version → ℕ → Reply
 features_reply ffa e version function =
-    if is_function function then success (feature_properties ffa e version function) 0 else Error NotSupported
+    if may_call ffa e function then success (feature_properties ffa e version function) 0 else Error NotSupported
 
-abbrev pub features_guards : ℕ → List (Bool × Refusal)
-features_guards function = (is_function function, FunctionUnknown) ∷ []
+abbrev pub features_guards : Ffa → Identifier → ℕ → List (Bool × Refusal)
+features_guards ffa e function = (may_call ffa e function, FunctionUnknown) ∷ []
 
 abbrev pub features : State → ℕ → Service
 features s function =
-    record (replying s (features_reply s.ffa s.runner (version_of s s.runner) function)) { guards = features_guards function }
+    record (replying s (features_reply s.ffa s.runner (version_of s s.runner) function)) { guards = features_guards s.ffa s.runner function }
 
 -- the 16 bytes that four registers hold
 abbrev pub uuid_bytes : List ℕ → List ℕ

@@ -69,6 +69,7 @@ pub record State : Type 0 where
   pub bitmaps : List Bool  -- by endpoint, whether it has notification bitmaps
   pub bound : finite_set.FinSet (slice_cmp nat_cmp)  -- of receiver, class, bit, sender
   pub pending : finite_set.FinSet (slice_cmp nat_cmp)  -- of receiver, class, bit
+  pub notices : finite_set.FinSet (slice_cmp nat_cmp)  -- of receiver, class: what the normal world is to be told of
 
 abbrev pub identifiers : State → List ℕ
 identifiers s = listed (length s.parties) identifier

@@ -9,7 +9,7 @@ use Rattle.ffa_model.specs.declared.rights.Kind.TheVariants.{Share, Lend, Donate
 use Rattle.ffa_model.specs.declared.call.Reply.TheVariants.{Error}
 use Rattle.ffa_model.specs.declared.refusal.Refusal.TheVariants.{FunctionUnknown}
 use Rattle.ffa_model.specs.declared.call.Call as calls
-use Rattle.ffa_model.specs.declared.call.Call.TheVariants.{Version, Features, RxRelease, RxtxMap, RxtxUnmap, PartitionInfoGet, IdGet, MsgWait, Yield, Run, DirectRequest, DirectResponse, MemDonate, MemLend, MemShare, MemRetrieve, MemRelinquish, MemReclaim, BitmapCreate, BitmapDestroy, NotificationBind, NotificationUnbind, NotificationSet, NotificationGet, SpmIdGet, MsgSend2, Unknown}
+use Rattle.ffa_model.specs.declared.call.Call.TheVariants.{Version, Features, RxRelease, RxtxMap, RxtxUnmap, PartitionInfoGet, IdGet, MsgWait, Yield, Run, DirectRequest, DirectResponse, MemDonate, MemLend, MemShare, MemRetrieve, MemRelinquish, MemReclaim, BitmapCreate, BitmapDestroy, NotificationBind, NotificationUnbind, NotificationSet, NotificationGet, NotificationInfoGet, SpmIdGet, MsgSend2, Unknown}
 use Rattle.ffa_model.specs.State.{State}
 use Rattle.ffa_model.specs.Registers.{decode}
 use Rattle.ffa_model.specs.Calls.{Service, Stepped, replying, served, success}
@@ -19,6 +19,7 @@ use Rattle.ffa_model.specs.Setup.{ffa_version, features, info_get}
 use Rattle.ffa_model.specs.Buffers.{rxtx_map, rxtx_unmap, rx_release}
 use Rattle.ffa_model.specs.RunStates.{direct_request, direct_response, run_partition, msg_wait, yield_now}
 use Rattle.ffa_model.specs.Messages.{msg_send2}
+use Rattle.ffa_model.specs.Notices.{notification_info_get}
 use Rattle.ffa_model.specs.MemorySend.{memory_send}
 use Rattle.ffa_model.specs.HypervisorRetrieve.{memory_retrieve}
 use Rattle.ffa_model.specs.MemoryReturn.{memory_relinquish, memory_reclaim}
@@ -52,6 +53,7 @@ service s (NotificationUnbind its) = notification_unbind s its
 service s (NotificationSet its) = notification_set s its
 service s (NotificationGet receiver context flags) = notification_get s receiver.0 context flags
 service s MsgSend2 = msg_send2 s
+service s (NotificationInfoGet is_wide) = notification_info_get s is_wide
 service s Unknown = record (replying s (Error NotSupported)) { guards = (false, FunctionUnknown) ∷ [] }
 
 abbrev pub serve : State → calls.Call → Stepped

@@ -122,6 +122,10 @@ pub enum Call {
         context: u16,
         flags: u32,
     },
+    /// FFA_NOTIFICATION_INFO_GET, in the form whose answer fills 64-bit registers, or in the other.
+    NotificationInfoGet {
+        is_wide: bool,
+    },
     /// FFA_SPM_ID_GET.
     SpmIdGet,
     /// FFA_MSG_SEND2.
@@ -139,6 +143,8 @@ pub enum Reply {
     Error(ErrorCode),
     /// FFA_SUCCESS, with w2 to w7.
     Success([u32; 6]),
+    /// FFA_SUCCESS of the 64-bit form, with x2 to x7.
+    WideSuccess([u64; 6]),
     /// FFA_SUCCESS of FFA_MEM_DONATE, FFA_MEM_LEND or FFA_MEM_SHARE.
     Sent(Handle),
     /// FFA_SUCCESS of FFA_NOTIFICATION_GET: the bitmaps of the notifications that partitions, the normal world and the manager

@@ -114,11 +114,11 @@ pub const FFA_NOTIFICATION_SET: u32 = 0x8400_0081;
 /// Gets the caller's pending bits.
 pub const FFA_NOTIFICATION_GET: u32 = 0x8400_0082;
 
-/// Asks which endpoints are to run since notifications of theirs are pending. Only a machine of several processors serves
-/// it; any other supports it as little as a number that is no call (DEN0077A, 16).
+/// Asks which endpoints are to run because notifications of theirs are pending. Only a machine of FF-A 1.2 serves it, and
+/// only for the normal world (DEN0077A, 16).
 pub const FFA_NOTIFICATION_INFO_GET: u32 = 0x8400_0083;
 
-/// Asks which endpoints are to run since notifications of theirs are pending, in the 64-bit form.
+/// Asks which endpoints are to run because notifications of theirs are pending. The answer fills 64-bit registers.
 pub const FFA_NOTIFICATION_INFO_GET_64: u32 = FFA_NOTIFICATION_INFO_GET + WIDE;
 
 /// Asks for the manager's identifier.

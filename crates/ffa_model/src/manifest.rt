@@ -5,6 +5,7 @@ ghost use Rattle.ffa_model.specs.declared.manifest.Ffa.TheVariants.{V1_1};
 ghost use Rattle.ffa_model.specs.Manifest.{is_accepted, root_of};
 ghost use Rattle.ffa_model.specs.Regions.{has_page, right_in, regions_at, normal_of, owned_regions, owner_in};
 ghost use Rattle.ffa_model.specs.Endpoints.{have_uuids};
+ghost use Rattle.ffa_model.specs.Notices.{hears_notices};
 
 use crate::endpoint::{Address, Endpoint, EndpointId, PageNo, regions_until};
 use crate::limits::MOST_ENDPOINTS;
@@ -20,6 +21,18 @@ pub enum Ffa {
     /// FF-A 1.2. Memory of the normal world's regions is non-secure (DEN0077A, 5 and 16), and whoever retrieves it is told so. All other
     /// memory is secure, and is not sent to the normal world.
     V1_2,
+}
+
+impl Ffa {
+    /// Whether an endpoint may ask about notices, which FFA_NOTIFICATION_INFO_GET tells: the normal world may, in FF-A 1.2.
+    pub fn tells_notices(self, endpoint: EndpointId) -> bool
+        ensures { result ≡ hears_notices self endpoint.0 }
+    {
+        match self {
+            Ffa::V1_1 => false,
+            Ffa::V1_2 => endpoint == EndpointId::NORMAL_WORLD,
+        }
+    }
 }
 
 /// A machine's RAM and endpoints, which meet the conditions of an accepted manifest: the RAM's place and size, the

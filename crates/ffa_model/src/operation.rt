@@ -30,7 +30,7 @@ impl Size {
     }
 }
 
-/// Why a call is refused (DEN0077A, 11.2): the codes -1 to -4 and -6.
+/// Why a call is refused (DEN0077A, 11.2): the codes -1 to -4, -6 and -9.
 #[derive(Clone, Copy, Debug, PartialEq, Eq)]
 pub enum ErrorCode {
     NotSupported,
@@ -38,6 +38,7 @@ pub enum ErrorCode {
     NoMemory,
     Busy,
     Denied,
+    NoData,
 }
 
 /// Why an access ends without its bytes.

@@ -173,6 +173,8 @@ pub enum Refusal {
     ReceiversDiffer,
     /// The caller of FFA_PARTITION_INFO_GET has no RX and TX.
     BuffersNeeded,
+    /// The normal world has been told of all notifications that are pending.
+    NothingToTell,
 }
 
 macro_rules! words {
@@ -259,6 +261,7 @@ pub const WORDS: &[(Refusal, &str)] = &words![
     WorldsMixed "secure pages are sent to the normal world, or together with non-secure pages";
     ReceiversDiffer "the endpoints in the descriptor are not the transaction's receivers";
     BuffersNeeded "the call needs RX and TX, and the caller has none";
+    NothingToTell "the normal world has been told of all pending notifications";
 ];
 
 impl Refusal {
@@ -306,6 +309,7 @@ impl Refusal {
             Refusal::StillHeld => ErrorCode::Denied,
             Refusal::WorldsMixed => ErrorCode::Denied,
             Refusal::BuffersNeeded => ErrorCode::Denied,
+            Refusal::NothingToTell => ErrorCode::NoData,
             _ => ErrorCode::InvalidParameters,
         }
     }

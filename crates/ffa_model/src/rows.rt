@@ -4,8 +4,8 @@
 use crate::function::*;
 use crate::refusal::Refusal;
 
-/// Of a call the identifier of its 32-bit form and its name; the registers that its 64-bit form reads whole, none where it
-/// has no such form; and its checks. Those of FF-A 1.1 stand in the order in which they are made. Those that only a machine of
+/// Of a call the identifier of its 32-bit form and its name; the registers that its 64-bit form reads or answers whole, none
+/// where it has no such form; and its checks. Those of FF-A 1.1 stand in the order in which they are made. Those that only a machine of
 /// FF-A 1.2 makes stand behind them, so that each check keeps its number.
 // A row is a tuple, because no definition can name a constant of a struct with references. The library for C does not
 // reach CALLS and WORDS, because they would need relocation. If guards were made from a row's checks and a list of
@@ -79,4 +79,5 @@ pub const CALLS: &[CallRow] = &rows![
         MessageEmpty MessageTooLong MessagesUnsent MessagesUnreceived ReceiverBuffersMissing ReceiverRxFull
         ReceiverRxSmall
     ];
+    FFA_NOTIFICATION_INFO_GET [2, 3, 4, 5, 6, 7] [FunctionUnknown NothingToTell];
 ];

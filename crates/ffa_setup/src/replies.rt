@@ -5,11 +5,12 @@ ghost use Rattle.std.specs.Result.{result_err};
 ghost use Rattle.ffa_model.specs.Bits.{bits, is_set};
 ghost use Rattle.ffa_model.specs.Calls.{first_refusal, success};
 ghost use Rattle.ffa_model.specs.Identifiers.{manager};
-ghost use Rattle.ffa_model.specs.Setup.{version_reply, feature_properties, features_guards, features_reply, map_properties, retrieve_properties, tells_normal};
+ghost use Rattle.ffa_model.specs.Setup.{version_reply, feature_properties, features_guards, features_reply, map_properties, may_call, retrieve_properties, tells_normal};
 
 use ffa_abi::is_function;
 use ffa_model::function::{
-    FFA_MEM_RETRIEVE_REQ, FFA_MEM_RETRIEVE_REQ_64, FFA_RXTX_MAP, FFA_RXTX_MAP_64,
+    FFA_MEM_RETRIEVE_REQ, FFA_MEM_RETRIEVE_REQ_64, FFA_NOTIFICATION_INFO_GET,
+    FFA_NOTIFICATION_INFO_GET_64, FFA_RXTX_MAP, FFA_RXTX_MAP_64,
 };
 use ffa_model::{EndpointId, Ffa, MOST_BUFFER_PAGES, Refusal, Reply, Version};
 
@@ -60,14 +61,14 @@ fn told_version(is_served: bool, version: u32) -> Reply
     Reply::Version(if is_served { version } else { NO_VERSION })
 }
 
-/// FFA_FEATURES (DEN0077A, 13), by the identifier of a call in either form: whether there is such a call. A machine of FF-A 1.2
+/// FFA_FEATURES (DEN0077A, 13), by the identifier of a call in either form: whether the caller may make it. A machine of FF-A 1.2
 /// also tells properties of two calls: of FFA_RXTX_MAP how many pages a buffer has at most, to a caller of the form of FF-A 1.2;
 /// and of FFA_MEM_RETRIEVE_REQ that its response tells non-secure memory, to a caller of any but the compact form, and that a
 /// hypervisor may read back what it sent, to the normal world. No other call has further properties.
 pub fn features(function: u32, ffa: Ffa, caller: EndpointId, version: Version) -> Reply
     ensures { result ≡ features_reply ffa caller.0 version function }
 {
-    match check_features(function) {
+    match check_features(function, ffa, caller) {
         Ok(()) => Reply::Success([properties(function, ffa, caller, version), 0, 0, 0, 0, 0]),
         Err(refusal) => Reply::Error(refusal.code()),
     }
@@ -121,18 +122,28 @@ fn told_worlds(version: Version) -> u32
     }
 }
 
-/// The check of FFA_FEATURES: whether the call that is asked for is served.
+/// The check of FFA_FEATURES, on a machine of this version of FF-A: whether the caller may make the call that it asks about.
 ///
 /// # Errors
 ///
-/// `FunctionUnknown` where it isn't.
-pub fn check_features(function: u32) -> Result<(), Refusal>
-    ensures { result_err result ≡ first_refusal (features_guards function) }
+/// `FunctionUnknown` if it may not.
+pub fn check_features(function: u32, ffa: Ffa, caller: EndpointId) -> Result<(), Refusal>
+    ensures { result_err result ≡ first_refusal (features_guards ffa caller.0 function) }
 {
-    if !is_function(function) {
+    if !may_call(function, ffa, caller) {
         return Err(Refusal::FunctionUnknown);
     }
     Ok(())
+}
+
+// Whether a caller may make the call that a number identifies.
+fn may_call(function: u32, ffa: Ffa, caller: EndpointId) -> bool
+    ensures { result ≡ may_call ffa caller.0 function }
+{
+    match function {
+        FFA_NOTIFICATION_INFO_GET | FFA_NOTIFICATION_INFO_GET_64 => ffa.tells_notices(caller),
+        _ => is_function(function),
+    }
 }
 
 /// FFA_ID_GET (DEN0077A, 13): the caller's own identifier.
