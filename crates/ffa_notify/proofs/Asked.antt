@@ -1,5 +1,5 @@
 -- SPDX-License-Identifier: MIT OR Apache-2.0
--- The words of the classes that flags ask for.
+-- The items of the classes that flags ask for.
 use Rattle.std.proofs.Common.{◌≡◌, ◌∙◌, ℕ, ◌+◌, ◌-◌, ◌/◌, ◌^◌, ◌<◌, ◌≤◌, Bool, true, false, List, length, get_or, set, refl, sym, ap, arith, inl, inr, get_or-set_other, get_or-set_same}
 use Rattle.std.specs.Prelude.{◌&&◌, nat_le, nat_lt, if◌then◌else◌}
 use Rattle.std.proofs.lemmas.Bool.{cases_eq, cases_lt, eq-eqb, le-leb, le-ltb, lt-leb, lt-ltb, ne_eqb}
@@ -28,7 +28,7 @@ asked-other first count flags k other =
     ap (λ m. nat_le first k && (nat_lt k m && is_set (k - first) flags)) behind
     ∙ ap (λ b. nat_le first k && (b && is_set (k - first) flags)) (one-more k (first + count) other)
 
--- the word of a class of a receiver
+-- the item of a class of a receiver
 pub asked-at : (first count class flags : ℕ) → class < count → is_asked first count flags (first + class) ≡ is_set class flags
 asked-at first count class flags lt =
     let back : first + class - first ≡ class = omega arith in
@@ -36,7 +36,7 @@ asked-at first count class flags lt =
     ∙ ap (λ b. b && is_set (first + class - first) flags) (lt-ltb (first + class) (first + count) (omega arith))
     ∙ ap (λ j. is_set j flags) back
 
--- the word of another receiver
+-- the item of another receiver
 pub asked-before : (first count flags k : ℕ) → k < first → is_asked first count flags k ≡ false
 asked-before first count flags k lt = ap (λ b. b && (nat_lt k (first + count) && is_set (k - first) flags)) (lt-leb first k lt)
 
@@ -49,26 +49,26 @@ asked-behind first count flags k le =
     neither false = refl
 
 -- one class more
-module _ (first count flags : ℕ) (old words : List ℕ)
-    (so_far : (k : ℕ) → get_or words k 0 ≡ (if is_asked first count flags k then 0 else get_or old k 0)) where
-  other-word : (k : ℕ) → (k ≡ first + count → ⊥) → get_or words k 0 ≡ (if is_asked first (count + 1) flags k then 0 else get_or old k 0)
-  other-word k other = so_far k ∙ ap (λ b. if b then 0 else get_or old k 0) (sym (asked-other first count flags k other))
+module _ {X : Type 0} (first count flags : ℕ) (empty : X) (old items : List X)
+    (so_far : (k : ℕ) → get_or items k empty ≡ (if is_asked first count flags k then empty else get_or old k empty)) where
+  other-item : (k : ℕ) → (k ≡ first + count → ⊥) → get_or items k empty ≡ (if is_asked first (count + 1) flags k then empty else get_or old k empty)
+  other-item k other = so_far k ∙ ap (λ b. if b then empty else get_or old k empty) (sym (asked-other first count flags k other))
 
-  pub asked-cleared : first + count < length words → is_set count flags ≡ true
-      → (k : ℕ) → get_or (set words (first + count) 0) k 0 ≡ (if is_asked first (count + 1) flags k then 0 else get_or old k 0)
+  pub asked-cleared : first + count < length items → is_set count flags ≡ true
+      → (k : ℕ) → get_or (set items (first + count) empty) k empty ≡ (if is_asked first (count + 1) flags k then empty else get_or old k empty)
   asked-cleared within is k = elim (cases_eq k (first + count)) [
     | inl e ↦ (
-        ap (λ j. get_or (set words (first + count) 0) j 0) e
-        ∙ get_or-set_same words (first + count) 0 0 within
-        ∙ ap (λ b. if b then 0 else get_or old k 0) (sym (ap (λ j. is_asked first (count + 1) flags j) e ∙ asked-at first (count + 1) count flags (omega arith) ∙ is)))
-    | inr other ↦ get_or-set_other words (first + count) k 0 0 other ∙ other-word k other
+        ap (λ j. get_or (set items (first + count) empty) j empty) e
+        ∙ get_or-set_same items (first + count) empty empty within
+        ∙ ap (λ b. if b then empty else get_or old k empty) (sym (ap (λ j. is_asked first (count + 1) flags j) e ∙ asked-at first (count + 1) count flags (omega arith) ∙ is)))
+    | inr other ↦ get_or-set_other items (first + count) k empty empty other ∙ other-item k other
   ]
 
-  pub asked-kept : is_set count flags ≡ false → (k : ℕ) → get_or words k 0 ≡ (if is_asked first (count + 1) flags k then 0 else get_or old k 0)
+  pub asked-kept : is_set count flags ≡ false → (k : ℕ) → get_or items k empty ≡ (if is_asked first (count + 1) flags k then empty else get_or old k empty)
   asked-kept is k = elim (cases_eq k (first + count)) [
     | inl e ↦ (
         so_far k
-        ∙ ap (λ b. if b then 0 else get_or old k 0) (ap (λ j. is_asked first count flags j) e ∙ asked-behind first count flags (first + count) (omega arith))
-        ∙ ap (λ b. if b then 0 else get_or old k 0) (sym (ap (λ j. is_asked first (count + 1) flags j) e ∙ asked-at first (count + 1) count flags (omega arith) ∙ is)))
-    | inr other ↦ other-word k other
+        ∙ ap (λ b. if b then empty else get_or old k empty) (ap (λ j. is_asked first count flags j) e ∙ asked-behind first count flags (first + count) (omega arith))
+        ∙ ap (λ b. if b then empty else get_or old k empty) (sym (ap (λ j. is_asked first (count + 1) flags j) e ∙ asked-at first (count + 1) count flags (omega arith) ∙ is)))
+    | inr other ↦ other-item k other
   ]

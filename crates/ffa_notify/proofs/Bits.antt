@@ -45,6 +45,10 @@ other zero _ = refl
 other (suc zero) _ = refl
 other (suc (suc a)) lt = absurd (omega arith)
 
+pub twice-not : (b : Bool) → not (not b) ≡ b
+twice-not true = refl
+twice-not false = refl
+
 pub set-or : (k a b : ℕ) → is_set k (bit_or a b) ≡ (is_set k a || is_set k b)
 set-or k a b =
     is_set-at k (bit_or a b)
@@ -139,6 +143,15 @@ all_bits test word others fits are =
     sym (some-bit (bit_and word others) (omega (arith, and_le_l word others)))
     ∙ ap not (any-same (λ k. is_set k (bit_and word others)) (λ k. is_set k word && not (test k)) 64 (λ k. k) (λ k lt. set-and k word others ∙ ap (λ b. is_set k word && b) (are k lt)))
     ∙ sym (all-filtered test (λ k. is_set k word) (listed 64 (λ k. k)))
+
+-- one of the bits of a word passes a test, where it has one in common with the word of those that do
+pub any_bits : (test : ℕ → Bool) (word others : ℕ) → word < 2 ^ 64 → ((k : ℕ) → k < 64 → is_set k others ≡ test k)
+    → not (bit_and word others == 0) ≡ list_any test (bits_of word)
+any_bits test word others fits are =
+    ap not (sym (some-bit (bit_and word others) (omega (arith, and_le_l word others))))
+    ∙ twice-not (list_any (λ k. is_set k (bit_and word others)) (listed 64 (λ k. k)))
+    ∙ any-same (λ k. is_set k (bit_and word others)) (λ k. is_set k word && test k) 64 (λ k. k) (λ k lt. set-and k word others ∙ ap (λ b. is_set k word && b) (are k lt))
+    ∙ sym (any-filtered test (λ k. is_set k word) (listed 64 (λ k. k)))
 
 -- an entry among those of the bits of a word
 abbrev is_one : (ℕ → List ℕ) → ℕ → List ℕ → ℕ → Bool

@@ -27,7 +27,7 @@ enumerate-more n (y ∷ ys) x =
     let further : n + 1 + length ys ≡ n + suc (length ys) = omega arith in
     ap (λ zs. (n, y) ∷ zs) (enumerate-more (n + 1) ys x ∙ ap (λ m. enumerate_from (n + 1) ys ++ (m, x) ∷ []) further)
 
-abbrev pub no_bits : ℕ → List ℕ
+abbrev no_bits : ℕ → List ℕ
 no_bits n = replicate n 0
 
 unset : (n i k : ℕ) → is_set k (get_or (no_bits n) i 0) ≡ false

@@ -4,9 +4,10 @@ pub mod Asked
 pub mod Universe
 pub mod Changes
 pub mod Stores
+pub mod NoticeStores
 pub mod Tests
 pub mod Views
 pub mod Boots
 pub mod Least
 pub mod SetGuards
-pub mod ToldWords
+pub mod Filters

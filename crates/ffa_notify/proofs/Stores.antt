@@ -10,7 +10,7 @@ use lib.Bits.{bit_and}
 use Rattle.ffa_model.specs.declared.limits.TheConstants.{MOST_ENDPOINTS}
 use Rattle.ffa_model.specs.Bits.{bits_of, is_set}
 use Rattle.ffa_model.specs.Identifiers.{identifier, place}
-use Rattle.ffa_model.specs.Notifications.{binding, bindings, class_of, class_of_entry, receiver_bit, receiver_of_entry}
+use Rattle.ffa_model.specs.Notifications.{binding, bindings, class_of, is_got, receiver_bit, receiver_of_entry}
 use Rattle.ffa_model.specs.State.{is_known_among}
 use Rattle.ffa_model.proofs.Places.{known-named, known-place, place-identifier, same-identifier}
 use Rattle.ffa_notify.specs.Stored.{bit_of, bound_in, entry, has_binding, has_pending_bit, is_asked, pending_in}
@@ -23,7 +23,7 @@ pub neither : (b : Bool) → (b && false) ≡ false
 neither true = refl
 neither false = refl
 
-as-before : (b : Bool) → (b && true) ≡ b
+pub as-before : (b : Bool) → (b && true) ≡ b
 as-before true = refl
 as-before false = refl
 
@@ -124,7 +124,7 @@ module _ (n : ℕ) (words : List ℕ) (some : 1 ≤ n) (r class : ℕ) (known_r 
 module _ (n : ℕ) (words after : List ℕ) (some : 1 ≤ n) (r flags : ℕ) (known_r : is_known_among n r ≡ true)
     (cleared : (k : ℕ) → get_or after k 0 ≡ (if is_asked (3 * place r) 3 flags k then 0 else get_or words k 0)) where
   abbrev remains : List ℕ → Bool
-  remains x = not (receiver_of_entry x == r && is_set (class_of_entry x) flags)
+  remains x = not (is_got r flags x)
 
   of-receiver : (i j k : ℕ) → i ≡ place r → j < 3 → is_set k (get_or after (3 * i + j) 0) ≡ (is_set k (get_or words (3 * i + j) 0) && remains (bit_of i j k))
   of-receiver i j k at lt =

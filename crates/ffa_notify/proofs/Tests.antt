@@ -10,11 +10,14 @@ use Rattle.ffa_notify.specs.contracts.class.Class.{the_type}
 use Rattle.ffa_notify.specs.declared.class.Class.{Class}
 use Rattle.ffa_notify.specs.declared.class.Class.TheVariants.{Partitions, NormalWorld, Manager}
 use Rattle.ffa_notify.specs.Stored.{class_number}
-use Rattle.ffa_model.specs.Bits.{is_set}
+use Rattle.std.specs.FinSet as finite_set
+use lib.Bits.{bit_and}
+use Rattle.ffa_model.specs.Bits.{bits_of, is_set}
 use Rattle.ffa_model.specs.Lists.{listed}
-use Rattle.ffa_model.specs.Notifications.{Notifications, class_of, has_pending, is_bindable, is_bound, is_bound_to_another, is_pending, is_unbindable, manager_class, normal_class, partition_class, pending_word}
+use Rattle.ffa_model.specs.Notices.{has_notice}
+use Rattle.ffa_model.specs.Notifications.{Notifications, class_of, has_bitmaps_in, has_pending, is_bindable, is_bound, is_bound_to_another, is_news, is_pending, is_unbindable, manager_class, normal_class, notice, partition_class, pending_word}
 use Rattle.ffa_model.proofs.Bitmaps.{word_where-same, word_where-set}
-use Rattle.ffa_notify.proofs.Bits.{any-same, set-not, set-or, some-bit}
+use Rattle.ffa_notify.proofs.Bits.{any-same, any_bits, set-not, set-or, some-bit, twice-not}
 
 neither-is : (a b : Bool) → (a || b) ≡ not (not a && not b)
 neither-is true b = refl
@@ -31,10 +34,6 @@ only-first : (a b : Bool) → (not a || b) ≡ not (a && not b)
 only-first true true = refl
 only-first true false = refl
 only-first false b = refl
-
-twice-not : (b : Bool) → not (not b) ≡ b
-twice-not true = refl
-twice-not false = refl
 
 -- the bits that a sender may not get, lose or set
 module _ (v : Notifications) (r s : ℕ) where
@@ -69,6 +68,13 @@ module _ (v : Notifications) (r class word : ℕ) (fits : word < 2 ^ 64) (are : 
       let whole : word ≡ word % 2 ^ 64 = omega arith in
       whole ∙ sym (word_where-set 64 word) ∙ word_where-same 64 (λ k. is_set k word) (is_pending v r class) are
 
+  -- bits of a receiver that has bitmaps are news where one isn't pending
+  pub some-news : has_bitmaps_in v r ≡ true → (bitmap : ℕ) → bitmap < 2 ^ 64
+      → not (bit_and bitmap (bit_not w64 word) == 0) ≡ is_news v r class (bits_of bitmap)
+  some-news has bitmap fits_bitmap =
+      λ t. sym has t
+      && any_bits (λ k. not (is_pending v r class k)) bitmap (bit_not w64 word) fits_bitmap (λ k lt. set-not k word fits lt ∙ ap not (are k lt)) t
+
 -- an entry of a receiver for another sender
 pub different : (a b : Class) → (class_number a ≡ class_number b) → not (sameb the_type a b) ≡ false
 different Partitions Partitions same = refl
@@ -86,3 +92,9 @@ pub some-of-three : (v : Notifications) (r : ℕ) (a b c : Bool) → a ≡ list_
     → b ≡ list_any (is_pending v r normal_class) (listed 64 (λ k. k)) → c ≡ list_any (is_pending v r manager_class) (listed 64 (λ k. k))
     → ((a || b) || c) ≡ has_pending v r
 some-of-three v r a b c is_a is_b is_c = joined a b c ∙ (λ t. is_a t || (is_b t || (is_c t || false)))
+
+-- whether there is a notice of any of three classes
+pub notice-of-three : (v : Notifications) (r : ℕ) (a b c : Bool) → a ≡ finite_set.contains v.notices (notice r partition_class)
+    → b ≡ finite_set.contains v.notices (notice r normal_class) → c ≡ finite_set.contains v.notices (notice r manager_class)
+    → ((a || b) || c) ≡ has_notice v r
+notice-of-three v r a b c is_a is_b is_c = joined a b c ∙ (λ t. is_a t || (is_b t || (is_c t || false)))

@@ -1,22 +1,23 @@
 // SPDX-License-Identifier: MIT OR Apache-2.0
-//! Who has bitmaps, which bits are bound to whom, and which are pending.
+//! Who has bitmaps, which bits are bound to whom, which are pending, and of which the normal world is to be told.
 ghost use Rattle.std.specs.Prelude.{◌≡◌, ◌<◌, ◌≤◌, ℕ, true, false, length, replicate, if◌then◌else◌};
 ghost use Rattle.std.specs.FinSet as finite_set;
 ghost use Rattle.ffa_model.specs.declared.limits.TheConstants.{MOST_ENDPOINTS};
 ghost use Rattle.ffa_model.specs.Bits.{bits_of, is_set};
 ghost use Rattle.ffa_model.specs.Identifiers.{place};
-ghost use Rattle.ffa_model.specs.Notifications.{class_of, has_bitmaps_in, is_bound, is_pending, with_bitmaps, with_bound, with_pending, without_bitmaps, without_bound, without_pending};
+ghost use Rattle.ffa_model.specs.Notifications.{class_of, has_bitmaps_in, is_bound, is_news, is_pending, notice, with_bitmaps, with_bound, with_notice, with_pending, with_set, without_bitmaps, without_bound, without_pending};
+ghost use Rattle.ffa_model.specs.Notices.{without_notices};
 ghost use Rattle.ffa_model.specs.State.{is_known_among};
-ghost use Rattle.ffa_notify.specs.Stored.{class_number, pending_in};
+ghost use Rattle.ffa_notify.specs.Stored.{class_number};
 
 use crate::class::Class;
-use crate::words::{CLASSES, MOST_BOUND, MOST_PENDING, clear_asked, clear_front};
+use crate::words::{CLASSES, MOST_BOUND, MOST_PENDING, clear, clear_asked, clear_front};
 use arrayvec::ArrayVec;
 use ffa_model::{EndpointId, MOST_ENDPOINTS};
 use std::marker::Model;
 
-/// Of each endpoint whether it has bitmaps, which of its bits each other endpoint may set, and which are pending. They
-/// take no memory beyond themselves.
+/// Of each endpoint whether it has bitmaps, which of its bits each other endpoint may set, and which are pending. Also of which
+/// the normal world is to be told. They take no memory beyond themselves.
 #[derive(Drop)]
 pub struct Bitmaps {
     // Whether an endpoint has bitmaps.
@@ -25,6 +26,9 @@ pub struct Bitmaps {
     pub(crate) bound: ArrayVec<u64, MOST_BOUND>,
     // The bits of a receiver that are pending: of each receiver a word for each class.
     pub(crate) pending: ArrayVec<u64, MOST_PENDING>,
+    // Of each receiver and each class whether a bit became pending that the normal world has not been told of, and the
+    // receiver has not got.
+    pub(crate) notices: ArrayVec<bool, MOST_PENDING>,
 }
 
 impl Model for Bitmaps {
@@ -39,9 +43,10 @@ impl Model for Bitmaps {
     ghost use Rattle.ffa_notify.specs.Stored.{IsWords, notifications_in};
 
     ghost view = { λ b. notifications_in
-        (record { has = b.has.items; bound = b.bound.items; pending = b.pending.items }) };
+        (record { has = b.has.items; bound = b.bound.items; pending = b.pending.items; notices = b.notices.items }) };
 
-    ghost invariant = { λ b. IsWords (record { has = b.has.items; bound = b.bound.items; pending = b.pending.items }) };
+    ghost invariant = { λ b. IsWords
+        (record { has = b.has.items; bound = b.bound.items; pending = b.pending.items; notices = b.notices.items }) };
 }
 
 impl Bitmaps {
@@ -78,11 +83,20 @@ impl Bitmaps {
         self.pending[CLASSES * receiver.place() + class.number()]
     }
 
-    // The words of pending bits, of each receiver one for each class.
-    pub(crate) fn pending_words(&self) -> &[u64]
-        ensures { pending_in MOST_ENDPOINTS result.now ≡ self.now.pending }
+    // Whether there is a notice of a receiver's class.
+    pub(crate) fn notice(&self, receiver: EndpointId, class: Class) -> bool
+        requires { is_known_among (length self.now.bitmaps) receiver.0 ≡ true }
+        ensures { result ≡ finite_set.contains self.now.notices (notice receiver.0 (class_number class)) }
     {
-        self.pending.as_slice()
+        self.notices[CLASSES * receiver.place() + class.number()]
+    }
+
+    // Whether a receiver has bitmaps and one of these bits of its class isn't pending yet.
+    fn is_news(&self, receiver: EndpointId, class: Class, bitmap: u64) -> bool
+        requires { is_known_among (length self.now.bitmaps) receiver.0 ≡ true }
+        ensures { result ≡ is_news self.now receiver.0 (class_number class) (bits_of bitmap) }
+    {
+        self.has(receiver) && bitmap & !self.pending(receiver, class) != 0
     }
 
     // Lets a sender set these bits of a receiver.
@@ -103,8 +117,28 @@ impl Bitmaps {
         self.bound[MOST_ENDPOINTS * receiver.place() + sender.place()] &= !bitmap;
     }
 
-    // Makes these bits of a receiver's class pending, where the receiver has bitmaps.
+    // Sets these bits of a receiver's class, where the receiver has bitmaps: they are pending, and what is new of them is to
+    // be told.
     pub(crate) fn set_bits(&mut self, receiver: EndpointId, class: Class, bitmap: u64)
+        requires { is_known_among (length self.old.bitmaps) receiver.0 ≡ true }
+        ensures { self.new ≡ with_set self.old receiver.0 (class_number class) (bits_of bitmap) }
+    {
+        self.note_news(receiver, class, bitmap);
+        self.make_pending(receiver, class, bitmap);
+    }
+
+    // Notes that the normal world is to be told of these bits, if they are news.
+    fn note_news(&mut self, receiver: EndpointId, class: Class, bitmap: u64)
+        requires { is_known_among (length self.old.bitmaps) receiver.0 ≡ true }
+        ensures { self.new ≡ with_notice self.old receiver.0 (class_number class) (bits_of bitmap) }
+    {
+        if self.is_news(receiver, class, bitmap) {
+            self.notices[CLASSES * receiver.place() + class.number()] = true;
+        }
+    }
+
+    // Makes these bits of a receiver's class pending, where the receiver has bitmaps.
+    fn make_pending(&mut self, receiver: EndpointId, class: Class, bitmap: u64)
         requires { is_known_among (length self.old.bitmaps) receiver.0 ≡ true }
         ensures { self.new ≡ with_pending self.old receiver.0 (class_number class) (bits_of bitmap) }
     {
@@ -129,11 +163,20 @@ impl Bitmaps {
         clear_front(&mut self.bound);
     }
 
-    // No bit of those classes of a receiver that the flags ask for is pending any more.
+    // No bit of those classes of a receiver that the flags ask for is pending any more, and nothing of them is to be told.
     pub(crate) fn clear_asked(&mut self, receiver: EndpointId, flags: u32)
         requires { is_known_among (length self.old.bitmaps) receiver.0 ≡ true }
         ensures { self.new ≡ without_pending self.old receiver.0 flags }
     {
-        clear_asked(&mut self.pending, CLASSES * receiver.place(), flags);
+        let first = CLASSES * receiver.place();
+        clear_asked(&mut self.pending, first, flags, 0);
+        clear_asked(&mut self.notices, first, flags, false);
+    }
+
+    // The normal world has been told of all.
+    pub(crate) fn drop_notices(&mut self)
+        ensures { self.new ≡ without_notices self.old }
+    {
+        clear(&mut self.notices);
     }
 }

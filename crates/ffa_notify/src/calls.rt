@@ -4,11 +4,13 @@ ghost use Rattle.std.specs.Prelude.{◌≡◌, true, length, OnOk, OnErr, IfOk};
 ghost use Rattle.std.specs.Result.{result_err};
 ghost use Rattle.ffa_model.specs.Bits.{bits_of};
 ghost use Rattle.ffa_model.specs.Calls.{first_failure};
-ghost use Rattle.ffa_model.specs.Notifications.{bind_guards, class_of, create_guards, destroy_guards, get_guards, get_reply, set_guards, unbind_guards, with_bitmaps, with_bound, manager_class, message_bits, with_pending, without_bitmaps, without_bound, without_pending};
+ghost use Rattle.ffa_model.specs.Notifications.{bind_guards, class_of, create_guards, destroy_guards, get_guards, get_reply, set_guards, unbind_guards, with_bitmaps, with_bound, manager_class, message_bits, with_set, without_bitmaps, without_bound, without_pending};
+ghost use Rattle.ffa_model.specs.Notices.{endpoints_to_tell, notice_guards, notice_reply, without_notices};
 ghost use Rattle.ffa_model.specs.State.{is_known_among};
 
 use crate::bitmaps::Bitmaps;
 use crate::class::Class;
+use crate::notices::notice_reply;
 use ffa_model::{EndpointId, ErrorCode, Ffa, NotificationBits, Reply};
 
 impl Bitmaps {
@@ -91,7 +93,7 @@ impl Bitmaps {
         Ok(())
     }
 
-    /// FFA_NOTIFICATION_SET: these bits of the receiver are pending.
+    /// FFA_NOTIFICATION_SET: these bits of the receiver are pending. If one was not, the normal world is to be told.
     ///
     /// # Errors
     ///
@@ -104,7 +106,7 @@ impl Bitmaps {
             ≡ first_failure (set_guards (length self.old.bitmaps) self.old caller.0 bits.now) }
         ensures kept { OnErr result (self.new ≡ self.old) }
         ensures pending { OnOk result (self.new
-            ≡ with_pending self.old bits.now.receiver.0 (class_of caller.0) (bits_of bits.now.bitmap)) }
+            ≡ with_set self.old bits.now.receiver.0 (class_of caller.0) (bits_of bits.now.bitmap)) }
     {
         self.check_set(caller, bits)?;
         self.set_bits(bits.receiver, Class::of(caller), bits.bitmap);
@@ -112,8 +114,8 @@ impl Bitmaps {
     }
 
     /// FFA_NOTIFICATION_GET on a machine of this version of FF-A, for a receiver in one of its execution contexts: the reply has
-    /// the caller's pending bits of the classes that the flags ask for, and they are pending no more. The bits are the same in
-    /// each context.
+    /// the caller's pending bits of the classes that the flags ask for, and they are pending no more. Nothing of these classes is
+    /// to be told then. The bits are the same in each context.
     ///
     /// # Errors
     ///
@@ -141,10 +143,37 @@ impl Bitmaps {
         Ok(reply)
     }
 
+    /// FFA_NOTIFICATION_INFO_GET on a machine of this version of FF-A, in the form whose answer fills 64-bit registers, or in the
+    /// other: the reply names each endpoint of which the normal world is to be told, the lowest identifier first. It has been
+    /// told of all then.
+    ///
+    /// # Errors
+    ///
+    /// In this order: `NotSupported` where the caller isn't the normal world, or the machine is of FF-A 1.1; `NoData` where there
+    /// is nothing to tell. An error changes nothing.
+    pub fn info_get(
+        &mut self,
+        ffa: Ffa,
+        caller: EndpointId,
+        is_wide: bool,
+    ) -> Result<Reply, ErrorCode>
+        ensures refusal { result_err result
+            ≡ first_failure (notice_guards ffa (length self.old.bitmaps) self.old caller.0) }
+        ensures reply { IfOk result (λ reply. reply
+            ≡ notice_reply is_wide (endpoints_to_tell (length self.old.bitmaps) self.old)) }
+        ensures kept { OnErr result (self.new ≡ self.old) }
+        ensures told { OnOk result (self.new ≡ without_notices self.old) }
+    {
+        self.check_info(ffa, caller)?;
+        let reply = notice_reply(is_wide, &self.endpoints_to_tell());
+        self.drop_notices();
+        Ok(reply)
+    }
+
     /// The manager tells a receiver, if it has bitmaps, that an indirect message stands in its RX.
     pub fn raise_framework(&mut self, receiver: EndpointId)
         requires { is_known_among (length self.old.bitmaps) receiver.0 ≡ true }
-        ensures { self.new ≡ with_pending self.old receiver.0 manager_class message_bits }
+        ensures { self.new ≡ with_set self.old receiver.0 manager_class message_bits }
     {
         self.set_bits(receiver, Class::Manager, 1);
     }

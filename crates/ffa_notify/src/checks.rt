@@ -4,6 +4,7 @@ ghost use Rattle.std.specs.Prelude.{◌≡◌, ◌==◌, ◌||◌, true, Bool, L
 ghost use Rattle.std.specs.Result.{result_err};
 ghost use Rattle.ffa_model.specs.Calls.{first_refusal};
 ghost use Rattle.ffa_model.specs.Notifications.{bind_guards, create_guards, destroy_guards, get_guards, is_context, is_context_count, sender_guards, set_guards, unbind_guards};
+ghost use Rattle.ffa_model.specs.Notices.{notice_guards};
 ghost use Rattle.ffa_model.specs.State.{is_known_among};
 
 use crate::bitmaps::Bitmaps;
@@ -160,6 +161,24 @@ impl Bitmaps {
         }
         if !self.has(caller) {
             return Err(Refusal::BitmapsMissing);
+        }
+        Ok(())
+    }
+
+    /// The checks of FFA_NOTIFICATION_INFO_GET, on a machine of this version of FF-A. Nothing changes.
+    ///
+    /// # Errors
+    ///
+    /// The first check of the call that fails.
+    pub fn check_info(&self, ffa: Ffa, caller: EndpointId) -> Result<(), Refusal>
+        ensures refusal { result_err result
+            ≡ first_refusal (notice_guards ffa (length self.now.bitmaps) self.now caller.0) }
+    {
+        if !ffa.tells_notices(caller) {
+            return Err(Refusal::FunctionUnknown);
+        }
+        if !self.has_notices() {
+            return Err(Refusal::NothingToTell);
         }
         Ok(())
     }

@@ -1,13 +1,12 @@
 // SPDX-License-Identifier: MIT OR Apache-2.0
-//! The same bitmaps once more, and what has been told of them.
+//! The same bitmaps once more.
 ghost use Rattle.std.specs.Prelude.{◌≡◌};
 
 use crate::bitmaps::Bitmaps;
-use crate::told::Told;
 use arrayvec::ArrayVec;
 
 impl Bitmaps {
-    /// The same bitmaps once more: who has some, what is bound, and what is pending. It takes no memory.
+    /// The same bitmaps once more: who has some, what is bound, what is pending, and what is to be told. It takes no memory.
     pub fn copy(&self) -> Bitmaps
         ensures { result ≡ self.now }
     {
@@ -15,18 +14,7 @@ impl Bitmaps {
             has: copied(&self.has),
             bound: copied(&self.bound),
             pending: copied(&self.pending),
-        }
-    }
-}
-
-impl Told {
-    /// The normal world has been told of the same once more. It takes no memory.
-    pub fn copy(&self) -> Told
-        ensures { result ≡ self.now }
-    {
-        Told {
-            words: self.words,
-            has_some: self.has_some,
+            notices: copied(&self.notices),
         }
     }
 }

@@ -12,18 +12,21 @@ use bitflags::Flags;
 use ffa_model::{Endpoint, MOST_ENDPOINTS, Manifest, Properties};
 
 impl Bitmaps {
-    /// The bitmaps at boot: each partition that receives notifications has them, and nothing is bound or pending.
+    /// The bitmaps at boot: each partition that receives notifications has them, and nothing is bound, pending or
+    /// to be told.
     pub fn of(manifest: &Manifest) -> Bitmaps
         ensures bitmaps { result.bitmaps ≡ map has_first_bitmaps (enumerate_from 0 manifest.now.endpoints.items) }
         ensures bound { result.bound ≡ finite_set.empty }
         ensures pending { result.pending ≡ finite_set.empty }
+        ensures notices { result.notices ≡ finite_set.empty }
     {
         let has = first_bitmaps(manifest);
         let endpoints = has.len();
         Bitmaps {
             has,
-            bound: no_bits(MOST_ENDPOINTS * endpoints),
-            pending: no_bits(CLASSES * endpoints),
+            bound: repeat(0, MOST_ENDPOINTS * endpoints),
+            pending: repeat(0, CLASSES * endpoints),
+            notices: repeat(false, CLASSES * endpoints),
         }
     }
 }
@@ -51,14 +54,14 @@ fn has_bitmaps(place: usize, endpoint: &Endpoint) -> bool
             .contains(Properties::RECEIVES_NOTIFICATIONS)
 }
 
-// This many words without a bit.
-fn no_bits<const MOST: usize>(count: usize) -> ArrayVec<u64, MOST>
+// An item this many times.
+fn repeat<T: Copy + Default, const MOST: usize>(item: T, count: usize) -> ArrayVec<T, MOST>
     requires { count ≤ MOST }
-    ensures { result.items ≡ replicate count 0 }
+    ensures { result.items ≡ replicate count item }
 {
-    let mut words = ArrayVec::new();
-    for _word in 0..count {
-        words.push(0);
+    let mut items = ArrayVec::new();
+    for _item in 0..count {
+        items.push(item);
     }
-    words
+    items
 }

@@ -8,12 +8,9 @@ mod checks;
 mod class;
 mod copy;
 mod first;
-pub mod notices;
+mod notices;
 mod questions;
 mod reasons;
-mod told;
 mod words;
 
 pub use bitmaps::Bitmaps;
-pub use notices::{Notice, in_one_context, is_about_notices, notice_asked};
-pub use told::{NO_DATA, Told, info_registers};

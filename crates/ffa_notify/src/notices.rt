@@ -1,145 +1,98 @@
 // SPDX-License-Identifier: MIT OR Apache-2.0
-//! Calls about notices, which a machine of several processors serves beside those of any machine.
-ghost use Rattle.std.specs.Prelude.{◌≡◌, ◌==◌, ◌&&◌, None, false, nat_lt, ℕ};
-ghost use Rattle.ffa_model.specs.declared.operation.Effect.{Effect};
-ghost use Rattle.ffa_model.specs.declared.operation.Outcome.{Outcome};
-ghost use Rattle.ffa_model.specs.declared.limits.TheConstants.{MOST_PROCESSORS};
-ghost use Rattle.ffa_model.specs.Bits.{high_half, low_half};
-ghost use Rattle.ffa_notify.specs.Noticed.{in_one_context, is_about_notices, is_info_get, notice_asked, notice_in, noticed, told_after, with_one_context};
+//! What the normal world is told of notifications that are pending (DEN0077A, 10).
+ghost use Rattle.std.specs.Prelude.{◌≡◌, ◌<◌, true, length, map, slice_index_or};
+ghost use Rattle.std.specs.List.{list_any};
+ghost use Rattle.ffa_model.specs.declared.endpoint.EndpointId.{EndpointId};
+ghost use Rattle.ffa_model.specs.Identifiers.{identifier};
+ghost use Rattle.ffa_model.specs.Lists.{listed};
+ghost use Rattle.ffa_model.specs.Notices.{endpoints_to_tell, four_from, has_notice, notice_reply, two_from};
+ghost use Rattle.ffa_model.specs.State.{is_known_among};
 
 use crate::bitmaps::Bitmaps;
-use crate::told::{Told, info_registers};
-use ffa_abi::low;
-use ffa_model::function::{
-    FFA_FEATURES, FFA_NOTIFICATION_BITMAP_CREATE, FFA_NOTIFICATION_GET, FFA_NOTIFICATION_INFO_GET,
-    FFA_NOTIFICATION_INFO_GET_64,
-};
-use ffa_model::{Effect, EndpointId, MOST_PROCESSORS, Op, Outcome, Reply};
+use crate::class::Class;
+use arrayvec::ArrayVec;
+use ffa_model::{EndpointId, MOST_ENDPOINTS, Reply};
 
-/// What the normal world asks about notices.
-#[derive(Clone, Copy)]
-pub enum Notice {
-    /// FFA_NOTIFICATION_INFO_GET, in its form of 64 bits or of 32.
-    Info { is_wide: bool },
-    /// FFA_FEATURES, of FFA_NOTIFICATION_INFO_GET.
-    Features,
-}
-
-/// Whether an operation may ask about notices, or name execution contexts, by the number of its call. If not, it is its own form in
-/// one context, and asks nothing.
-#[inline(always)]
-pub fn is_about_notices(op: &Op) -> bool
-    ensures about { result ≡ is_about_notices op.now }
-    ensures own { result ≡ false → in_one_context op.now ≡ op.now }
-    ensures quiet { result ≡ false → (runner : ℕ) → notice_asked runner op.now ≡ None }
-{
-    match op {
-        Op::Call(registers) => matches!(
-            low(registers[0]),
-            FFA_NOTIFICATION_BITMAP_CREATE
-                | FFA_NOTIFICATION_GET
-                | FFA_FEATURES
-                | FFA_NOTIFICATION_INFO_GET
-                | FFA_NOTIFICATION_INFO_GET_64
-        ),
-        _ => false,
-    }
-}
-
-/// What an operation of whoever runs asks about notices, if it does.
-pub fn notice_asked(runner: EndpointId, op: &Op) -> Option<Notice>
-    ensures { result ≡ notice_asked runner.0 op.now }
-{
-    match op {
-        Op::Call(registers) => {
-            if runner == EndpointId::NORMAL_WORLD {
-                notice_in(registers)
-            } else {
-                None
-            }
-        }
-        _ => None,
-    }
-}
-
-fn notice_in(registers: &[u64; 8]) -> Option<Notice>
-    ensures { result ≡ notice_in registers.now }
-{
-    let w0 = low(registers[0]);
-    if is_info_get(w0) {
-        let is_wide = w0 != FFA_NOTIFICATION_INFO_GET;
-        return Some(Notice::Info { is_wide });
-    }
-    if w0 == FFA_FEATURES && is_info_get(low(registers[1])) {
-        return Some(Notice::Features);
-    }
-    None
-}
-
-fn is_info_get(w0: u32) -> bool
-    ensures { result ≡ is_info_get w0 }
-{
-    w0 == FFA_NOTIFICATION_INFO_GET || w0 == FFA_NOTIFICATION_INFO_GET_64
-}
-
-/// The same operation where an endpoint has one execution context: bitmaps of notifications for as many contexts as there may
-/// be processors are those for one, and in whichever context the normal world gets its bits, it gets the same.
-pub fn in_one_context(op: &Op) -> Op
-    ensures { result ≡ in_one_context op.now }
-{
-    match *op {
-        Op::Call(registers) => Op::Call(with_one_context(registers)),
-        _ => *op,
-    }
-}
-
-fn with_one_context(registers: [u64; 8]) -> [u64; 8]
-    ensures { result ≡ with_one_context registers }
-{
-    let mut one = registers;
-    let (w0, w1, w2) = (low(registers[0]), low(registers[1]), low(registers[2]));
-    if w0 == FFA_NOTIFICATION_BITMAP_CREATE && 0 < w2 && w2 as usize <= MOST_PROCESSORS {
-        one[2] = 1;
-    } else if w0 == FFA_NOTIFICATION_GET && is_normal_world_in_a_context(w1) {
-        one[1] = 0;
-    }
-    one
-}
-
-// Whether a word names the normal world, in one of as many contexts as there may be processors.
-fn is_normal_world_in_a_context(word: u32) -> bool
-    ensures { result ≡ (low_half word == 0 && nat_lt (high_half word) MOST_PROCESSORS) }
-{
-    word % 0x1_0000 == 0 && ((word / 0x1_0000) as usize) < MOST_PROCESSORS
-}
-
-impl Told {
-    /// Answers what an operation asked about notices, in place of what the operation came to in the machine, and notes what the
-    /// normal world has been told of then. The bitmaps are those after the operation.
-    pub fn answer(&mut self, asked: Option<Notice>, bitmaps: &Bitmaps, effect: &mut Effect)
-        ensures effect { effect.new ≡ noticed self.old bitmaps.now asked effect.old }
-        ensures told { self.new ≡ told_after self.old bitmaps.now asked }
+impl Bitmaps {
+    // The endpoints of which there is a notice, the lowest identifier first.
+    pub(crate) fn endpoints_to_tell(&self) -> ArrayVec<EndpointId, MOST_ENDPOINTS>
+        ensures { map (λ (e : EndpointId). e.0) result.items ≡ endpoints_to_tell (length self.now.bitmaps) self.now }
     {
-        match asked {
-            Some(Notice::Info { is_wide }) => {
-                *effect = to_normal_world(info_registers(is_wide, &self.untold(bitmaps)));
-                self.tell(bitmaps);
+        let mut to_tell = ArrayVec::new();
+        for place in 0..self.endpoints() {
+            let endpoint = EndpointId::at(place);
+            if self.has_notice(endpoint) {
+                to_tell.push(endpoint);
             }
-            Some(Notice::Features) => {
-                *effect = to_normal_world(ffa_abi::encode(&Reply::Success([0; 6])));
-                self.follow(bitmaps);
-            }
-            None => self.follow(bitmaps),
         }
+        to_tell
+    }
+
+    // Whether there is such an endpoint.
+    pub(crate) fn has_notices(&self) -> bool
+        ensures { result ≡ list_any (has_notice self.now) (listed (length self.now.bitmaps) identifier) }
+    {
+        let mut has_notices = false;
+        for place in 0..self.endpoints() {
+            has_notices |= self.has_notice(EndpointId::at(place));
+        }
+        has_notices
+    }
+
+    // Whether there is a notice of an endpoint, of any class.
+    fn has_notice(&self, endpoint: EndpointId) -> bool
+        requires { is_known_among (length self.now.bitmaps) endpoint.0 ≡ true }
+        ensures { result ≡ has_notice self.now endpoint.0 }
+    {
+        let partitions = self.notice(endpoint, Class::Partitions);
+        let normal_world = self.notice(endpoint, Class::NormalWorld);
+        let manager = self.notice(endpoint, Class::Manager);
+        partitions | normal_world | manager
     }
 }
 
-// The normal world sees these registers.
-fn to_normal_world(x: [u64; 8]) -> Effect
-    ensures { result ≡ Effect.Outcome (Outcome.Regs (record { 0 = 0 }) x) }
+// The reply to FFA_NOTIFICATION_INFO_GET that names these endpoints, in 64-bit registers or in others.
+pub(crate) fn notice_reply(is_wide: bool, endpoints: &ArrayVec<EndpointId, MOST_ENDPOINTS>) -> Reply
+    ensures { result ≡ notice_reply is_wide (map (λ (e : EndpointId). e.0) endpoints.now.items) }
 {
-    Effect::Outcome(Outcome::Regs {
-        runner: EndpointId::NORMAL_WORLD,
-        x,
-    })
+    let ids = endpoints.as_slice();
+    if is_wide {
+        let x2 = 128 * ids.len() as u64;
+        let [x3, x4, x5] = [four_from(ids, 0), four_from(ids, 4), four_from(ids, 8)];
+        Reply::WideSuccess([x2, x3, x4, x5, four_from(ids, 12), four_from(ids, 16)])
+    } else {
+        let w2 = 128 * ids.len() as u32;
+        let [w3, w4, w5] = [two_from(ids, 0), two_from(ids, 2), two_from(ids, 4)];
+        Reply::Success([w2, w3, w4, w5, two_from(ids, 6), two_from(ids, 8)])
+    }
+}
+
+// Two identifiers from a place on in a word of 32 bits.
+fn two_from(endpoints: &[EndpointId], place: usize) -> u32
+    requires { place < 20 }
+    ensures { result ≡ two_from (map (λ (e : EndpointId). e.0) endpoints.now) place }
+{
+    identifier_at(endpoints, place) + 0x1_0000 * identifier_at(endpoints, place + 1)
+}
+
+// Four in a word of 64 bits.
+fn four_from(endpoints: &[EndpointId], place: usize) -> u64
+    requires { place < 18 }
+    ensures { result ≡ four_from (map (λ (e : EndpointId). e.0) endpoints.now) place }
+{
+    let low = u64::from(two_from(endpoints, place));
+    let high = u64::from(two_from(endpoints, place + 2));
+    low + 0x1_0000_0000 * high
+}
+
+// The identifier at a place, and behind the last 0.
+fn identifier_at(endpoints: &[EndpointId], place: usize) -> u32
+    ensures value { result ≡ slice_index_or (map (λ (e : EndpointId). e.0) endpoints.now) place 0 }
+    ensures few { result < 0x10000 }
+{
+    if place < endpoints.len() {
+        u32::from(endpoints[place].0)
+    } else {
+        0
+    }
 }

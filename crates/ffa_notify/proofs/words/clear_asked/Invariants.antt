@@ -6,4 +6,4 @@ use Rattle.ffa_notify.proofs.words.clear_asked.Given as goal
 
 -- the classes so far
 abbrev pub invariant-loop-class : goal.invariant-loop-class
-invariant-loop-class l = (k : ℕ) → get_or l.words k 0 ≡ (if is_asked l.first l.class l.flags k then 0 else get_or l.fn.words k 0)
+invariant-loop-class g l = (k : ℕ) → get_or l.items k l.empty ≡ (if is_asked l.first l.class l.flags k then l.empty else get_or l.fn.items k l.empty)

@@ -1,7 +1,7 @@
 -- SPDX-License-Identifier: MIT OR Apache-2.0
 use Rattle.std.proofs.Common.{◌∙◌, length}
 use Rattle.ffa_model.specs.Bits.{bits_of}
-use Rattle.ffa_model.specs.Notifications.{set_guards, with_pending}
+use Rattle.ffa_model.specs.Notifications.{set_guards, with_set}
 use Rattle.ffa_model.proofs.Guards.{answers-code, answers-pass}
 use Rattle.ffa_notify.proofs.bitmaps.Bitmaps.set.Goals as goal
 
@@ -14,4 +14,4 @@ returns-clause-refusal c = answers-pass (set_guards (length c.args.self.now.bitm
 
 pub returns-clause-pending : goal.returns-clause-pending
 returns-clause-pending c =
-    c.set_bits.ensures ∙ (λ t. with_pending c.args.self.now c.args.bits.now.receiver.0 (c.of.ensures t) (bits_of c.args.bits.now.bitmap))
+    c.set_bits.ensures ∙ (λ t. with_set c.args.self.now c.args.bits.now.receiver.0 (c.of.ensures t) (bits_of c.args.bits.now.bitmap))
