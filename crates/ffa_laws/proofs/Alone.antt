@@ -33,7 +33,7 @@ use Rattle.ffa_model.specs.declared.call.Transfer.{Transfer}
 use Rattle.ffa_model.specs.Transactions.{next_handle, open_of, scene_of}
 use Rattle.ffa_model.proofs.Guards.{guard-passes}
 use Rattle.ffa_laws.specs.Steady.{IsSteady}
-use Rattle.ffa_laws.specs.Events.{Event, Filled, Item, Own, Pending, Told, call_events, events, items, public_change, where_passed, where_true}
+use Rattle.ffa_laws.specs.Events.{Event, Filled, Item, Own, Pending, Told, call_events, events, items, notified, public_change, where_passed, where_true}
 use Rattle.ffa_laws.specs.Isolation.{fills_rx_page, is_rx, is_send2}
 use Rattle.ffa_laws.specs.OwnAccess.{is_call}
 use Rattle.ffa_laws.specs.RunIntegrity.{RunIntegrity, is_quiet}
@@ -117,7 +117,7 @@ told-filled e s p MsgSend2 is fills =
     go (first_failure (msg_send2 s).guards) (passed (first_failure (msg_send2 s).guards) none) ((header_in (tx_bytes s s.runner)).receiver == e) receiver
   where
     go : (g : Option ErrorCode) → g ≡ None → (b : Bool) → b ≡ true
-        → are_quiet_events true (where_passed g (where_true b (Filled (message_in (tx_bytes s s.runner)) ∷ where_true (has_bitmaps_in (notifications_of s) e) (Pending manager_class message_bits ∷ []))) ++ public_change s (serve s MsgSend2).state) ≡ false
+        → are_quiet_events true (where_passed g (where_true b (Filled (message_in (tx_bytes s s.runner)) ∷ []) ++ notified e s (msg_send2 s).state (where_true ((header_in (tx_bytes s s.runner)).receiver == e && has_bitmaps_in (notifications_of s) e) (Pending manager_class message_bits ∷ []))) ++ public_change s (serve s MsgSend2).state) ≡ false
     go None none true is = refl
     go None none false is = absurd (false≢true is)
     go (Some code) none b is = absurd (some_none none)

@@ -12,7 +12,7 @@ use Rattle.ffa_model.specs.declared.operation.Size.TheVariants.{B1}
 use Rattle.ffa_model.specs.declared.rights.Kind.{Kind}
 use Rattle.ffa_model.specs.declared.rights.Kind.TheVariants.{Share, Lend, Donate}
 use Rattle.ffa_model.specs.declared.call.Call as calls
-use Rattle.ffa_model.specs.declared.call.Call.TheVariants.{MemDonate, MemLend, MemShare, NotificationSet, MsgSend2}
+use Rattle.ffa_model.specs.declared.call.Call.TheVariants.{MemDonate, MemLend, MemShare, NotificationSet, NotificationGet, MsgSend2}
 use Rattle.ffa_model.specs.Access.{access, is_receiver, names}
 use Rattle.ffa_model.specs.declared.call.NotificationBits.{NotificationBits}
 use Rattle.ffa_model.specs.Bits.{bits_of}
@@ -23,7 +23,7 @@ use Rattle.ffa_model.specs.Lists.{map_at}
 use Rattle.ffa_model.specs.Memory.{access_at, size_of, store_fault}
 use Rattle.ffa_model.specs.MemorySend.{memory_sent, send_read, transaction_sent}
 use Rattle.ffa_model.specs.Messages.{MessageHeader, header_in, message_in, msg_send2, send2_guards, tx_bytes}
-use Rattle.ffa_model.specs.Notifications.{class_of, has_bitmaps_in, manager_class, message_bits, notification_set, notifications_of, set_guards}
+use Rattle.ffa_model.specs.Notifications.{class_of, has_bitmaps_in, manager_class, message_bits, notification_get, notification_set, notifications_of, set_guards}
 use Rattle.ffa_model.specs.Registers.{decode}
 use Rattle.ffa_model.specs.Rights.{may_store}
 use Rattle.ffa_model.specs.SendDescriptor.{SendRecord}
@@ -34,7 +34,7 @@ use Rattle.ffa_model.proofs.Accesses.{length-map_at}
 use Rattle.ffa_model.proofs.Guards.{guard-passes}
 use Rattle.ffa_laws.specs.Steady.{IsSteady}
 use Rattle.ffa_laws.specs.View.{buffers_seen, hidden, is_near, kept, view}
-use Rattle.ffa_laws.specs.Events.{Event, Wrote, Filled, Pending, Opened, Public, apply, apply_all, call_events, delivers, events, named_pages, opens, pages_with, public_change, sets, told_by, where_passed, where_true, writes}
+use Rattle.ffa_laws.specs.Events.{Event, Wrote, Filled, Pending, Opened, Public, Notices, apply, apply_all, call_events, delivers, events, named_pages, notified, opens, pages_with, public_change, sets, told_by, where_passed, where_true, writes}
 use Rattle.ffa_laws.specs.Public.{public_buffers, public_part, same_public}
 use Rattle.ffa_laws.specs.Silence.{AreBare, IsBare, may_change_public}
 use Rattle.ffa_laws.proofs.BufferLaws.{own-buffers}
@@ -44,6 +44,7 @@ use Rattle.ffa_laws.proofs.Maps.{at-map_at, map_at-alike, map_at-twice}
 use Rattle.ffa_laws.proofs.Meets.{zero-word}
 use Rattle.ffa_model.proofs.Served.{FitsBitmap, decode-fits}
 use Rattle.ffa_laws.proofs.MemoryLaws.{fault-none}
+use Rattle.ffa_laws.proofs.Notices.{either-notified, notice-seen}
 use Rattle.ffa_laws.proofs.Rows.{all-weaker, row-of, told_row}
 use Rattle.ffa_laws.proofs.SendLaws.{rewritten-sent}
 use Rattle.ffa_laws.proofs.Views.{kept_none}
@@ -69,6 +70,7 @@ is_plain (Filled bytes) = false
 is_plain (Pending class bits) = false
 is_plain (Opened h t pages) = false
 is_plain (Public values) = false
+is_plain (Notices values) = false
 is_plain event = true
 
 plain-bare : (e : ℕ) (v : State) (event : Event) → is_plain event ≡ true → IsBare e v event
@@ -77,6 +79,7 @@ plain-bare e v (Filled bytes) plain = absurd (false≢true plain)
 plain-bare e v (Pending class bits) plain = absurd (false≢true plain)
 plain-bare e v (Opened h t pages) plain = absurd (false≢true plain)
 plain-bare e v (Public values) plain = absurd (false≢true plain)
+plain-bare e v (Notices values) plain = absurd (false≢true plain)
 plain-bare e v event plain = tt
 
 all-plain : (e : ℕ) (es : List Event) (v : State) → list_all is_plain es ≡ true → AreBare e v es
@@ -173,30 +176,40 @@ module _ (e : ℕ) (s : State) where
       let cut : length (message_in (tx_bytes s s.runner)) ≤ header.offset + header.size = take-most (header.offset + header.size) (tx_bytes s s.runner) in
       subst (λ o. length (message_in (tx_bytes s s.runner)) ≤ room_of o) (ap (buffers_of s) (eqb-true header.receiver e mine) ∙ sym (own-buffers e s known)) (omega (arith, room, cut))
 
+  -- what is heard of notices is what e sees of them
+  bare-notified : (w next : State) (own : List Event) → w.ffa ≡ s.ffa → next.ffa ≡ s.ffa → AreBare e w own → AreBare e w (notified e s next own)
+  bare-notified w next own same after bare = either-notified (AreBare e w) e s next own tt (λ differ. (notice-seen e w next (same ∙ sym after), tt)) bare
+
+  same-ffa : (mine : Bool) (bytes : List ℕ) → (apply_all e v (where_true mine (Filled bytes ∷ []))).ffa ≡ s.ffa
+  same-ffa true bytes = refl
+  same-ffa false bytes = refl
+
   bare-delivered : is_known s e ≡ true → first_failure (msg_send2 s).guards ≡ None → AreBare e v (delivers e s (tx_bytes s s.runner))
   bare-delivered known none =
       let filling = Filled (message_in (tx_bytes s s.runner)) in
       let bit = Pending manager_class message_bits in
-      let has = has_bitmaps_in (notifications_of s) e in
-      bare-where e v (header.receiver == e) (filling ∷ where_true has (bit ∷ [])) (λ mine. (
-        fits known none mine,
-        bare-where e (apply e v filling) has (bit ∷ []) (λ _. ((some≢nothing, (1, refl)), tt)),
-      ))
+      let told = where_true (header.receiver == e) (filling ∷ []) in
+      let both = header.receiver == e && has_bitmaps_in (notifications_of s) e in
+      bare-append e v told _
+      (bare-where e v (header.receiver == e) (filling ∷ []) (λ mine. (fits known none mine, tt)))
+      (bare-notified (apply_all e v told) (msg_send2 s).state (where_true both (bit ∷ [])) (same-ffa (header.receiver == e) (message_in (tx_bytes s s.runner))) refl
+      (bare-where e (apply_all e v told) both (bit ∷ []) (λ _. ((some≢nothing, (1, refl)), tt))))
 
   bare-set : (its : NotificationBits) → its.bitmap < 2 ^ 64 → first_failure (notification_set s its).guards ≡ None
-      → AreBare e v (sets e s its.receiver.0 (bits_of its.bitmap))
+      → AreBare e v (sets e s its)
   bare-set its lt none =
       let asked : not (its.bitmap == 0) ≡ true = guard-passes (set_guards (length s.parties) (notifications_of s) s.runner its) 4 (sym none) in
-      bare-where e v (its.receiver.0 == e) (Pending (class_of s.runner) (bits_of its.bitmap) ∷ []) (λ mine. (
+      bare-notified v (notification_set s its).state _ refl refl (bare-where e v (its.receiver.0 == e) (Pending (class_of s.runner) (bits_of its.bitmap) ∷ []) (λ mine. (
         (λ nothing. true≢false (sym asked ∙ ap not (eq-eqb its.bitmap 0 (zero-word its.bitmap lt nothing))), (its.bitmap, refl)),
         tt,
-      ))
+      )))
 
   bare-told : is_known s e ≡ true → (call : calls.Call) → FitsBitmap call → first_failure (service s call).guards ≡ None → AreBare e v (told_by e s call)
   bare-told known (MemDonate x) fits none = bare-sent Donate (send_read s Donate x.total)
   bare-told known (MemLend x) fits none = bare-sent Lend (send_read s Lend x.total)
   bare-told known (MemShare x) fits none = bare-sent Share (send_read s Share x.total)
   bare-told known (NotificationSet its) fits none = bare-set its fits none
+  bare-told known (NotificationGet receiver context flags) fits none = bare-notified v (notification_get s receiver.0 context flags).state [] refl refl tt
   bare-told known MsgSend2 fits none = bare-delivered known none
   bare-told known call fits none = all-plain e (told_by e s call) v (all-weaker (told_row call) is_plain (told_by e s call) plain (row-of e s call))
     where
@@ -210,6 +223,7 @@ module _ (e : ℕ) (s : State) where
       untold (Pending class bits) laden = refl
       untold (Opened h t pages) laden = refl
       untold (Public values) laden = neither (may_change_public call)
+      untold (Notices values) laden = refl
       untold event laden = absurd (true≢false laden)
 
       plain : (event : Event) → told_row call event ≡ true → is_plain event ≡ true

@@ -27,12 +27,13 @@ use Rattle.ffa_model.specs.Transactions.{not_holding}
 use Rattle.ffa_model.proofs.Accesses.{named-in}
 use Rattle.ffa_laws.specs.Steady.{IsAlone, IsSteady}
 use Rattle.ffa_laws.specs.View.{involves, is_near, kept, seen_by, view}
-use Rattle.ffa_laws.specs.Events.{Event, Wrote, Filled, Pending, Opened, Held, Zeroed, Closed, apply, apply_all, call_events, delivers, events, public_change, releases, where_passed, where_true, with_holder, writes}
+use Rattle.ffa_laws.specs.Events.{Event, Wrote, Filled, Pending, Opened, Held, Zeroed, Closed, apply, apply_all, call_events, delivers, events, notified, public_change, releases, where_passed, where_true, with_holder, writes}
 use Rattle.ffa_laws.specs.Readable.{all_readably, blank, blank_where, blanked, is_unreadable, readable, readably}
 use Rattle.ffa_laws.specs.Silence.{may_tell}
 use Rattle.ffa_laws.proofs.Blanks.{at-blanked, blank-none, blanked-twice}
 use Rattle.ffa_laws.proofs.BufferLaws.{own-buffers}
 use Rattle.ffa_laws.proofs.Maps.{map_at-alike, map_at-set, map_at-twice}
+use Rattle.ffa_laws.proofs.Notices.{either-notified}
 use Rattle.ffa_laws.proofs.Opened.{get-insert}
 use Rattle.ffa_laws.proofs.Rows.{all-weaker, call-rows}
 use Rattle.ffa_laws.proofs.Views.{kept_none, shown, view-page, view-transaction}
@@ -250,15 +251,18 @@ module _ (e : ℕ) (s : State) where
         of (Some d) = released d (is_from e (transaction_of s d.handle)) (d.zero && involves e (transaction_of s d.handle))
     clean-call MsgSend2 =
         clean-two (where_passed (first_failure (msg_send2 s).guards) (delivers e s (tx_bytes s s.runner))) (public_change s (serve s MsgSend2).state) v
-        (passed (first_failure (msg_send2 s).guards) (delivers e s (tx_bytes s s.runner)) (of ((header_in (tx_bytes s s.runner)).receiver == e) (has_bitmaps_in (notifications_of s) e))) (public-plain (serve s MsgSend2).state)
+        (passed (first_failure (msg_send2 s).guards) (delivers e s (tx_bytes s s.runner)) (clean-two (where_true ((header_in (tx_bytes s s.runner)).receiver == e) (Filled (message_in (tx_bytes s s.runner)) ∷ [])) _ v (of ((header_in (tx_bytes s s.runner)).receiver == e)) heard)) (public-plain (serve s MsgSend2).state)
       where
         raised : (c : Bool) → list_all is_plain (where_true c (Pending manager_class message_bits ∷ [])) ≡ true
         raised true = refl
         raised false = refl
 
-        of : (b c : Bool) → AreClean v (all_readably e s (where_true b (Filled (message_in (tx_bytes s s.runner)) ∷ where_true c (Pending manager_class message_bits ∷ []))))
-        of false c = tt
-        of true c = (fill-clean (message_in (tx_bytes s s.runner)), clean-plain (where_true c (Pending manager_class message_bits ∷ [])) _ (raised c))
+        heard : list_all is_plain (notified e s (msg_send2 s).state (where_true ((header_in (tx_bytes s s.runner)).receiver == e && has_bitmaps_in (notifications_of s) e) (Pending manager_class message_bits ∷ []))) ≡ true
+        heard = either-notified (λ es. list_all is_plain es ≡ true) e s (msg_send2 s).state _ refl (λ differ. refl) (raised ((header_in (tx_bytes s s.runner)).receiver == e && has_bitmaps_in (notifications_of s) e))
+
+        of : (b : Bool) → AreClean v (all_readably e s (where_true b (Filled (message_in (tx_bytes s s.runner)) ∷ [])))
+        of false = tt
+        of true = (fill-clean (message_in (tx_bytes s s.runner)), tt)
     clean-call call = rest call (λ h. refl) (λ bytes. refl) (λ address bytes. refl)
       where
         rest : (c : calls.Call) → ((h : ℕ) → may_tell c (Zeroed h) ≡ false) → ((bytes : List ℕ) → may_tell c (Filled bytes) ≡ false) → ((address : ℕ) (bytes : List ℕ) → may_tell c (Wrote address bytes) ≡ false)

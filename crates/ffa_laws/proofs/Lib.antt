@@ -10,6 +10,7 @@ pub mod Steadies
 pub mod MemoryLaws
 pub mod Told
 pub mod Bitmaps
+pub mod Notices
 pub mod Raised
 pub mod BufferLaws
 pub mod Versions

@@ -29,10 +29,11 @@ use Rattle.ffa_model.proofs.Bitmaps.{word_where-same, word_where-set}
 use Rattle.ffa_model.proofs.Guards.{guard-passes}
 use Rattle.ffa_model.proofs.Served.{FitsBitmap, decode-fits}
 use Rattle.ffa_laws.specs.View.{involves, kept, seen_by, view}
-use Rattle.ffa_laws.specs.Events.{Event, Wrote, Filled, Pending, Held, Zeroed, apply, apply_all, call_events, delivers, events, public_change, releases, sets, told_by, where_passed, where_true, with_holder, writes}
+use Rattle.ffa_laws.specs.Events.{Event, Wrote, Filled, Pending, Held, Zeroed, apply, apply_all, call_events, delivers, events, notified, public_change, releases, sets, told_by, where_passed, where_true, with_holder, writes}
 use Rattle.ffa_laws.specs.Silence.{AreMet, is_met, may_tell}
 use Rattle.ffa_laws.proofs.BufferLaws.{own-buffers}
 use Rattle.ffa_laws.proofs.MemoryLaws.{fault-none}
+use Rattle.ffa_laws.proofs.Notices.{either-notified}
 use Rattle.ffa_laws.proofs.Opened.{get-insert}
 use Rattle.ffa_laws.proofs.Raised.{own-bitmaps}
 use Rattle.ffa_laws.proofs.Rows.{all-weaker, call-rows}
@@ -124,15 +125,32 @@ module _ (e : ℕ) (s : State) (sound : IsSoundState s) (known : is_known s e �
   abbrev v : State
   v = view e s
 
+  -- what is heard of notices is about nothing that must stand in the view
+  met-notified : (w next : State) (own : List Event) → AreMet e w own → AreMet e w (notified e s next own)
+  met-notified w next own met = either-notified (AreMet e w) e s next own tt (λ differ. (refl, tt)) met
+
+  -- a message leaves who has bitmaps
+  still-bitmaps : (mine : Bool) (bytes : List ℕ) → has_bitmaps_in (notifications_of (apply_all e v (where_true mine (Filled bytes ∷ [])))) e ≡ has_bitmaps_in (notifications_of v) e
+  still-bitmaps true bytes = refl
+  still-bitmaps false bytes = refl
+
   met-delivered : first_failure (msg_send2 s).guards ≡ None → AreMet e v (delivers e s (tx_bytes s s.runner))
   met-delivered none =
       let header = header_in (tx_bytes s s.runner) in
       let filling = Filled (message_in (tx_bytes s s.runner)) in
-      met-where e v (header.receiver == e) (filling ∷ where_true (has_bitmaps_in (notifications_of s) e) (Pending manager_class message_bits ∷ [])) (λ mine. (
+      let told = where_true (header.receiver == e) (filling ∷ []) in
+      let both = header.receiver == e && has_bitmaps_in (notifications_of s) e in
+      met-append e v told _
+      (met-where e v (header.receiver == e) (filling ∷ []) (λ mine. (
         ap is_some (own-buffers e s known ∙ ap (buffers_of s) (sym (eqb-true header.receiver e mine)))
             ∙ guard-passes (send2_guards s.parties s.buffers (version_of s s.runner) s.runner header) 11 (sym none),
-        met-where e (apply e v filling) (has_bitmaps_in (notifications_of s) e) (Pending manager_class message_bits ∷ []) (λ has. (own-bitmaps e s known ∙ has, tt)),
-      ))
+        tt,
+      )))
+      (met-notified (apply_all e v told) (msg_send2 s).state (where_true both (Pending manager_class message_bits ∷ []))
+      (met-where e (apply_all e v told) both (Pending manager_class message_bits ∷ []) (λ is. (
+        still-bitmaps (header.receiver == e) (message_in (tx_bytes s s.runner)) ∙ own-bitmaps e s known ∙ (and_parts (header.receiver == e) _ is).1,
+        tt,
+      ))))
 
   -- a receiver of which a bit is bound has bitmaps
   bound-bitmaps : (receiver class sender : ℕ) (ks : List ℕ) → (ks ≡ [] → ⊥) → list_all (λ k. is_bound (notifications_of s) receiver class k sender) ks ≡ true → has_bitmaps_in (notifications_of s) receiver ≡ true
@@ -143,18 +161,18 @@ module _ (e : ℕ) (s : State) (sound : IsSoundState s) (known : is_known s e �
       ap (has_bitmaps_in (notifications_of s)) (ap (λ x. slice_index x 0) good.is) ∙ good.bitmaps
 
   met-set : (its : NotificationBits) → its.bitmap < 2 ^ 64 → first_failure (notification_set s its).guards ≡ None
-      → AreMet e v (sets e s its.receiver.0 (bits_of its.bitmap))
+      → AreMet e v (sets e s its)
   met-set its lt none =
       let guards = set_guards (length s.parties) (notifications_of s) s.runner its in
       let some : not (its.bitmap == 0) ≡ true = guard-passes guards 4 (sym none) in
       let all = guard-passes guards 5 (sym none) in
-      met-where e v (its.receiver.0 == e) (Pending (class_of s.runner) (bits_of its.bitmap) ∷ []) (λ mine. (
+      met-notified v (notification_set s its).state _ (met-where e v (its.receiver.0 == e) (Pending (class_of s.runner) (bits_of its.bitmap) ∷ []) (λ mine. (
         own-bitmaps e s known ∙ ap (has_bitmaps_in (notifications_of s)) (sym (eqb-true its.receiver.0 e mine))
             ∙ bound-bitmaps its.receiver.0 (class_of s.runner) s.runner (bits_of its.bitmap)
             (λ nothing. true≢false (sym some ∙ ap not (eq-eqb its.bitmap 0 (zero-word its.bitmap lt nothing))))
             all,
         tt,
-      ))
+      )))
 
   -- who holds a transaction doesn't matter to whether it is open
   still-open : (h f : ℕ) (b : Bool) → is_some (transaction_of v h) ≡ true → is_some (transaction_of (apply_all e v (where_true b (Held h f None ∷ []))) h) ≡ true

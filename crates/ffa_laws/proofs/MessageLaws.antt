@@ -1,6 +1,6 @@
 -- SPDX-License-Identifier: MIT OR Apache-2.0
 -- Indirect messages: in the sender's view, and to others.
-use Rattle.std.proofs.Common.{◌≡◌, ◌≢◌, ◌∙◌, ℕ, ◌+◌, true, false, List, [], ◌∷◌, ◌++◌, length, Option, Some, None, is_some, refl, sym, ap, arith, length-set, ◌==◌, not, nat_le, eq-eqb, eqb-true, true≢false}
+use Rattle.std.proofs.Common.{◌≡◌, ◌≢◌, ◌∙◌, ℕ, ◌+◌, Bool, true, false, List, [], ◌∷◌, ◌++◌, length, Option, Some, None, is_some, refl, sym, ap, arith, length-set, ◌==◌, ◌&&◌, not, nat_le, eq-eqb, eqb-true, true≢false}
 use Rattle.std.specs.Option.{option_map_or}
 use Rattle.std.proofs.lemmas.Bool.Decides.{nat_tests}
 use Rattle.ffa_model.proofs.Runs.{flat-run-same}
@@ -12,20 +12,21 @@ use Rattle.ffa_model.specs.Memory.{page_bytes, run_bytes}
 use Rattle.ffa_model.specs.Buffers.{buffers_in, buffers_with_rx, filled, filled_pages, is_full, room_of}
 use Rattle.ffa_model.specs.Calls.{first_failure}
 use Rattle.ffa_model.specs.Messages.{MessageHeader, delivered, header_in, message_header_size, message_in, msg_send2, send2_guards, tx_bytes}
-use Rattle.ffa_model.specs.Notifications.{manager_class, notifications_of, message_bits, has_bitmaps_in, with_pending}
+use Rattle.ffa_model.specs.Notifications.{manager_class, notifications_of, message_bits, has_bitmaps_in, with_set}
 use Rattle.ffa_model.specs.RunStates.{schedule_of}
 use Rattle.ffa_laws.specs.Steady.{IsSteady}
 use Rattle.ffa_laws.specs.View.{view, is_near, kept}
-use Rattle.ffa_laws.specs.Events.{Filled, Pending, apply_all, delivers, public_change, where_true}
+use Rattle.ffa_laws.specs.Events.{Event, Filled, Pending, apply_all, delivers, notified, public_change, where_true}
 use Rattle.ffa_model.proofs.Guards.{guard-passes}
 use Rattle.ffa_model.proofs.Accesses.{length-map_at}
 use Rattle.ffa_laws.proofs.Views.{near-bytes}
 use Rattle.ffa_laws.proofs.Form.{IsOwn}
-use Rattle.ffa_laws.proofs.Changes.{other-told, repaged, seen_buffers, view-changed, with_parts, with_public_parts}
+use Rattle.ffa_laws.proofs.Changes.{apply_all-append, other-told, repaged, seen_buffers, view-changed, with_parts, with_public_parts}
 use Rattle.ffa_laws.proofs.Written.{rewritten-filled, rx-own, seen-filled, with_rx_full}
 use Rattle.ffa_laws.proofs.Steadies.{alone-near, steady-notified}
 use Rattle.ffa_laws.proofs.Told.{IsTold}
-use Rattle.ffa_laws.proofs.Raised.{own-bitmaps, pending-applied, raised, raised-absent, raised-hidden, raised-own}
+use Rattle.ffa_laws.proofs.Notices.{heard}
+use Rattle.ffa_laws.proofs.Raised.{raised, raised-seen, set-applied}
 use Rattle.ffa_laws.proofs.BufferLaws.{far-repaged, own-buffers, seen-full, seen-room, seen-some, steady-filled, view-buffers, view-filled_other}
 use Rattle.ffa_laws.proofs.Versions.{version-seen}
 
@@ -91,8 +92,7 @@ module _ (s : State) (steady : IsSteady s) where
     λ none. (
       ap (λ tx. delivered (view s.runner s) (header_in tx).receiver (message_in tx)) tx-seen
           ∙ ap (λ v. raised v receiver manager_class message_bits) (view-filled_other s.runner receiver s bytes steady steady.runner (receiver-known none) (receiver-other none))
-          ∙ raised-absent receiver manager_class message_bits s.runner (filled s receiver bytes) (receiver-known none) (receiver-other none)
-          ∙ sym (raised-hidden receiver manager_class message_bits s.runner (filled s receiver bytes) (receiver-other none)),
+          ∙ raised-seen receiver manager_class message_bits s.runner (filled s receiver bytes) (receiver-known none) (receiver-other none) (λ hears. refl),
       refl,
     ),
   )
@@ -100,7 +100,7 @@ module _ (s : State) (steady : IsSteady s) where
   pub steady-send2 : IsSteady (msg_send2 s).state
   steady-send2 =
       let after = steady-filled s steady receiver bytes in
-      steady-notified (filled s receiver bytes) after (with_pending (notifications_of s) receiver manager_class message_bits) after.bound
+      steady-notified (filled s receiver bytes) after (with_set (notifications_of s) receiver manager_class message_bits) after.bound
 
   module _ (e : ℕ) (known : is_known s e ≡ true) where
     abbrev new_pages : List (Option Page)
@@ -115,38 +115,45 @@ module _ (s : State) (steady : IsSteady s) where
     filled-seen : view e (filled s receiver bytes) ≡ with_public_parts (repaged e s new_pages) (schedule_of s) (seen_buffers e (length s.pages) new_buffers)
     filled-seen = view-changed e s new_pages new_buffers (schedule_of s) (rewritten-filled s.pages bytes (buffers_of s receiver))
 
-    to-other : failure ≡ None → (receiver == e) ≡ false → view e (msg_send2 s).state ≡ apply_all e (view e s) (public_change s (msg_send2 s).state)
-    to-other none other =
-        other-told e s (msg_send2 s).state (view e s) [] each (λ i mine. rx-own (length s.pages) s.buffers receiver true i)
-        (length-map_at (λ q page. kept (is_near e s q) page) s.pages) refl refl
-        (raised-hidden receiver manager_class message_bits e (filled s receiver bytes) differ ∙ filled-seen
-        ∙ ap (λ v. with_public_parts v (schedule_of s) (seen_buffers e (length s.pages) new_buffers)) (far-repaged e receiver s bytes steady (receiver-known none) differ))
-      where
-        differ : receiver ≢ e
-        differ same = true≢false (sym (eq-eqb receiver e same) ∙ other)
+    abbrev next : State
+    next = (msg_send2 s).state
 
-    to-receiver : (receiver == e) ≡ true → view e (msg_send2 s).state
-        ≡ apply_all e (view e s) ((Filled bytes ∷ where_true (has_bitmaps_in (notifications_of s) e) (Pending manager_class message_bits ∷ [])) ++ public_change s (msg_send2 s).state)
-    to-receiver mine =
-        other-told e s (msg_send2 s).state (raised (repaged e s new_pages) e manager_class message_bits) (Filled bytes ∷ where_true (has_bitmaps_in (notifications_of s) e) (Pending manager_class message_bits ∷ [])) each (λ i own. rx-own (length s.pages) s.buffers receiver true i)
-        (length-map_at (λ q page. kept (is_near e s q) page) new_pages ∙ (rewritten-filled s.pages bytes (buffers_of s receiver)).each) refl
-        (ap (λ v. apply_all e v (where_true (has_bitmaps_in (notifications_of s) e) (Pending manager_class message_bits ∷ []))) by_filled
-        ∙ pending-applied e manager_class message_bits (repaged e s new_pages) (has_bitmaps_in (notifications_of s) e) (own-bitmaps e s known))
-        (ap (λ f. view e (raised (filled s receiver bytes) f manager_class message_bits)) same
-        ∙ sym (raised-own e manager_class message_bits (filled s receiver bytes) known)
-        ∙ ap (λ v. raised v e manager_class message_bits) filled-seen)
-      where
-        same : receiver ≡ e
-        same = eqb-true receiver e mine
+    abbrev has : Bool
+    has = has_bitmaps_in (notifications_of s) e
 
-        by_filled : record (view e s) { pages = filled_pages (view e s).pages bytes (buffers_of (view e s) e) } ≡ repaged e s new_pages
-        by_filled =
-            λ i. with_parts (view e s) ((ap (filled_pages (view e s).pages bytes) (own-buffers e s known ∙ ap (buffers_of s) (sym same)) ∙ sym (seen-filled e s bytes (buffers_of s receiver))) i) (view e s).buffers (schedule_of s)
+    -- what is told of the manager's bit
+    abbrev bit_told : List Event
+    bit_told = notified e s next (where_true (receiver == e && has) (Pending manager_class message_bits ∷ []))
+
+    bit-applied : (ps : List (Option Page)) → apply_all e (repaged e s ps) bit_told ≡ heard e (repaged e s ps) next
+    bit-applied ps = set-applied receiver manager_class message_bits ps new_pages new_buffers e s known (receiver == e && has) (twice (receiver == e) has)
+      where
+        twice : (a b : Bool) → ((a && b) && b) ≡ (a && b)
+        twice true true = refl
+        twice true false = refl
+        twice false b = refl
+
+    -- a message to another, and one to e
+    abbrev filling : Bool → List Event
+    filling mine = where_true mine (Filled bytes ∷ [])
+
+    from-pages : (mine : Bool) (ps : List (Option Page)) → length (repaged e s ps).pages ≡ length s.pages → apply_all e (view e s) (filling mine) ≡ repaged e s ps → repaged e s new_pages ≡ repaged e s ps
+        → view e next ≡ apply_all e (view e s) ((filling mine ++ bit_told) ++ public_change s next)
+    from-pages mine ps size by_filled same =
+        other-told e s next (heard e (repaged e s ps) next) (filling mine ++ bit_told) each (λ i own. rx-own (length s.pages) s.buffers receiver true i) size refl
+        (apply_all-append e (view e s) (filling mine) bit_told ∙ ap (λ v. apply_all e v bit_told) by_filled ∙ bit-applied ps)
+        (ap (λ v. heard e v next) (filled-seen ∙ ap (λ v. with_public_parts v (schedule_of s) (seen_buffers e (length s.pages) new_buffers)) same))
 
     pub other-send2 : IsTold e s (msg_send2 s) (delivers e s (tx_bytes s s.runner))
-    other-send2 none =
-        elim (receiver == e) as (λ b. (receiver == e) ≡ b → view e (msg_send2 s).state
-        ≡ apply_all e (view e s) (where_true b (Filled bytes ∷ where_true (has_bitmaps_in (notifications_of s) e) (Pending manager_class message_bits ∷ [])) ++ public_change s (msg_send2 s).state)) [
-          | true ↦ to-receiver
-          | false ↦ to-other none
-        ] refl
+    other-send2 none = of (receiver == e) refl
+      where
+        of : (mine : Bool) → (receiver == e) ≡ mine → view e next ≡ apply_all e (view e s) ((filling mine ++ bit_told) ++ public_change s next)
+        of true mine = from-pages true new_pages (length-map_at (λ q page. kept (is_near e s q) page) new_pages ∙ (rewritten-filled s.pages bytes (buffers_of s receiver)).each) by_filled refl
+          where
+            by_filled : record (view e s) { pages = filled_pages (view e s).pages bytes (buffers_of (view e s) e) } ≡ repaged e s new_pages
+            by_filled =
+                λ i. with_parts (view e s) ((ap (filled_pages (view e s).pages bytes) (own-buffers e s known ∙ ap (buffers_of s) (sym (eqb-true receiver e mine))) ∙ sym (seen-filled e s bytes (buffers_of s receiver))) i) (view e s).buffers (schedule_of s)
+        of false other = from-pages false s.pages (length-map_at (λ q page. kept (is_near e s q) page) s.pages) refl (far-repaged e receiver s bytes steady (receiver-known none) differ)
+          where
+            differ : receiver ≢ e
+            differ same = true≢false (sym (eq-eqb receiver e same) ∙ other)

@@ -18,7 +18,7 @@ use Rattle.ffa_model.specs.declared.rights.Rights.{Rights}
 use Rattle.ffa_model.specs.declared.rights.Kind.{Kind}
 use Rattle.ffa_model.specs.declared.rights.Kind.TheVariants.{Share, Lend, Donate}
 use Rattle.ffa_model.specs.declared.call.Call as calls
-use Rattle.ffa_model.specs.declared.call.Call.TheVariants.{MsgWait, Yield, Run, DirectRequest, DirectResponse, MemDonate, MemLend, MemShare, MemRetrieve, MemRelinquish, MemReclaim, BitmapDestroy, NotificationBind, NotificationUnbind, NotificationSet, MsgSend2}
+use Rattle.ffa_model.specs.declared.call.Call.TheVariants.{MsgWait, Yield, Run, DirectRequest, DirectResponse, MemDonate, MemLend, MemShare, MemRetrieve, MemRelinquish, MemReclaim, BitmapDestroy, NotificationBind, NotificationUnbind, NotificationSet, NotificationGet, MsgSend2}
 use Rattle.ffa_model.specs.SendDescriptor.{SendRecord}
 use Rattle.ffa_model.specs.State.{State, Transaction, buffers_of, is_known, transaction_of}
 use Rattle.ffa_model.specs.Access.{held_by, is_from, is_held_by, is_offered, is_receiver}
@@ -29,8 +29,8 @@ use Rattle.ffa_model.specs.Memory.{size_of, store_fault}
 use Rattle.ffa_model.specs.MemoryRetrieve.{retrieve_read}
 use Rattle.ffa_model.specs.MemoryReturn.{memory_relinquish, relinquish_guards, relinquish_read}
 use Rattle.ffa_model.specs.MemorySend.{memory_send, send_guards, send_read, transaction_sent}
-use Rattle.ffa_model.specs.Messages.{header_in, message_in, tx_bytes}
-use Rattle.ffa_model.specs.Notifications.{binding, class_of, is_bound, has_bitmaps_in, manager_class, message_bits, notifications_of}
+use Rattle.ffa_model.specs.Messages.{header_in, message_in, msg_send2, tx_bytes}
+use Rattle.ffa_model.specs.Notifications.{binding, class_of, is_bound, has_bitmaps_in, manager_class, message_bits, notification_get, notification_set, notifications_of}
 use Rattle.ffa_model.specs.Registers.{decode}
 use Rattle.ffa_model.specs.Step.{serve, service}
 use Rattle.ffa_model.specs.declared.call.Transfer.{Transfer}
@@ -40,7 +40,8 @@ use Rattle.ffa_model.proofs.Guards.{guard-passes}
 use Rattle.ffa_model.proofs.Sets.{Bits, contains-retained, same-itself, same_elements}
 use Rattle.ffa_laws.specs.Steady.{IsSteady}
 use Rattle.ffa_laws.specs.View.{involves, kept, seen_by, view}
-use Rattle.ffa_laws.specs.Events.{Event, Wrote, Filled, Pending, Bound, Unbound, Opened, Held, Zeroed, Closed, Public, apply, apply_all, binds, call_events, events, opens, public_change, releases, takes, takes_from, taking, told_by, where_passed, where_true, with_held, with_holder, writes}
+use Rattle.ffa_laws.specs.Events.{Event, Wrote, Filled, Pending, Bound, Unbound, Opened, Held, Zeroed, Closed, Public, Notices, apply, apply_all, binds, call_events, events, notified, opens, public_change, releases, takes, takes_from, taking, told_by, where_passed, where_true, with_held, with_holder, writes}
+use Rattle.ffa_laws.specs.Notices.{notice_part, notices_seen, pending_seen}
 use Rattle.ffa_laws.specs.Public.{public_part, same_public}
 use Rattle.ffa_laws.specs.Silence.{AreNews, Silence, may_repeat}
 use Rattle.ffa_laws.specs.Moves.{by_runner}
@@ -49,6 +50,7 @@ use Rattle.ffa_laws.proofs.Changes.{apply_all-append}
 use Rattle.ffa_laws.proofs.Closed.{get-remove}
 use Rattle.ffa_laws.proofs.Laws.{other-call}
 use Rattle.ffa_laws.proofs.Meets.{are-met}
+use Rattle.ffa_laws.proofs.Notices.{either-notified, notice-news}
 use Rattle.ffa_laws.proofs.Opened.{get-insert}
 use Rattle.ffa_laws.proofs.ReadBacks.{by-either, tells-nothing}
 use Rattle.ffa_laws.proofs.ReclaimLaws.{seen-whole}
@@ -317,6 +319,16 @@ module _ (e : ℕ) (s : State) (steady : IsSteady s) where
   rising-word : (word : ℕ) → Rising 0 (bits_of word)
   rising-word word = rising-filter (λ k. is_set k word) 0 (listed 64 (λ k. k)) (rising-from 0 64 (λ k. k) (λ i. omega arith))
 
+  -- what is heard of notices is news
+  news-notified : (w next : State) (own : List Event) → w.pending ≡ pending_seen e s → w.notices ≡ notices_seen e s → AreNews e w own → AreNews e w (notified e s next own)
+  news-notified w next own bits heard news = either-notified (AreNews e w) e s next own tt (λ differ. changes e w (Notices (notice_part e next)) (notice-news e s next w bits heard differ)) news
+
+  -- a message changes none of it
+  filled-notices : (mine : Bool) (bytes : List ℕ)
+      → ((apply_all e v (where_true mine (Filled bytes ∷ []))).pending ≡ pending_seen e s) × ((apply_all e v (where_true mine (Filled bytes ∷ []))).notices ≡ notices_seen e s)
+  filled-notices true bytes = (refl, refl)
+  filled-notices false bytes = (refl, refl)
+
   news-told : (call : calls.Call) → first_failure (service s call).guards ≡ None → AreNews e v (told_by e s call)
   news-told (MsgWait flags) none = repeats e v _ _ refl
   news-told Yield none = repeats e v _ _ refl
@@ -334,13 +346,17 @@ module _ (e : ℕ) (s : State) (steady : IsSteady s) where
   news-told (BitmapDestroy endpoint) none = news-unbinds 0 e (listed 64 (λ k. k)) (rising-from 0 64 (λ k. k) (λ i. omega arith))
   news-told (NotificationBind its) none = news-binds s.runner its.sender.0 (bits_of its.bitmap) (rising-word its.bitmap)
   news-told (NotificationUnbind its) none = news-unbinds s.runner its.sender.0 (bits_of its.bitmap) (rising-word its.bitmap)
-  news-told (NotificationSet its) none = repeats e v _ _ refl
+  news-told (NotificationSet its) none = news-notified v (notification_set s its).state _ refl refl (repeats e v (its.receiver.0 == e) _ refl)
+  news-told (NotificationGet receiver context flags) none = news-notified v (notification_get s receiver.0 context flags).state [] refl refl tt
   news-told MsgSend2 none =
       let filling = Filled (message_in (tx_bytes s s.runner)) in
       let pending = Pending manager_class message_bits in
-      let now : AreNews e v (filling ∷ where_true (has_bitmaps_in (notifications_of s) e) (pending ∷ [])) =
-      (λ not _. true≢false not, repeats e (apply e v filling) (has_bitmaps_in (notifications_of s) e) pending refl) in
-      news-where e v ((header_in (tx_bytes s s.runner)).receiver == e) (filling ∷ where_true (has_bitmaps_in (notifications_of s) e) (pending ∷ [])) (λ mine. now)
+      let mine = (header_in (tx_bytes s s.runner)).receiver == e in
+      let (same_bits_seen, same_notices_seen) = filled-notices mine (message_in (tx_bytes s s.runner)) in
+      news-append e v (where_true mine (filling ∷ [])) _
+      (repeats e v mine filling refl)
+      (news-notified (apply_all e v (where_true mine (filling ∷ []))) (msg_send2 s).state _ same_bits_seen same_notices_seen
+      (repeats e (apply_all e v (where_true mine (filling ∷ []))) (mine && has_bitmaps_in (notifications_of s) e) pending refl))
   news-told call none = tt
 
   all-private : (call : calls.Call) → list_all (λ event. not (is_public event)) (told_by e s call) ≡ true

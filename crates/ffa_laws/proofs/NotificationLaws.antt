@@ -1,6 +1,6 @@
 -- SPDX-License-Identifier: MIT OR Apache-2.0
 -- Notifications: in the runner's view, and to others.
-use Rattle.std.proofs.Common.{◌≡◌, ◌≢◌, ◌∙◌, ℕ, zero, suc, ◌<◌, Bool, true, false, cond, List, [], ◌∷◌, ◌++◌, map, length, set, refl, sym, ap, subst, arith, ◌==◌, ◌||◌, ◌&&◌, filter, nat_le, not}
+use Rattle.std.proofs.Common.{◌≡◌, ◌≢◌, ◌∙◌, inl, inr, ℕ, zero, suc, ◌<◌, Bool, true, false, cond, List, [], ◌∷◌, ◌++◌, map, length, set, refl, sym, ap, subst, arith, ◌==◌, ◌||◌, ◌&&◌, filter, nat_le, not}
 use Rattle.std.specs.List.{list_all, list_any}
 use Rattle.std.specs.Ordering.{eq_by_cmp, nat_cmp}
 use Rattle.std.specs.Cmp.Lexicographic.{slice_cmp}
@@ -16,10 +16,15 @@ use Rattle.ffa_model.specs.Lists.{listed, map_at}
 use Rattle.ffa_model.specs.Identifiers.{identifier}
 use Rattle.ffa_model.specs.State.{State, is_known, is_known_among}
 use Rattle.ffa_model.specs.Calls.{first_failure}
-use Rattle.ffa_model.specs.Notifications.{Notifications, binding, bitmap_create, bitmap_destroy, class_of_entry, class_of, destroy_guards, create_guards, get_reply, has_bitmaps_in, has_pending, is_bindable, is_bound, is_bound_to_another, is_context, is_context_count, is_pending, is_unbindable, manager_class, normal_class, notification_bind, notification_get, notification_set, notification_unbind, notifications_of, partition_class, receiver_bit, receiver_of_entry, sender_of_entry, set_guards, with_bound, with_notifications, without_bitmaps, without_bound}
+use Rattle.ffa_model.specs.declared.manifest.Ffa.{Ffa}
+use Rattle.ffa_model.specs.declared.manifest.Ffa.TheVariants.{V1_1, V1_2}
+use Rattle.ffa_model.specs.declared.refusal.Refusal.TheVariants.{FunctionUnknown, NothingToTell}
+use Rattle.ffa_model.specs.Notices.{endpoints_to_tell, has_notice, hears_notices, notice_guards, notice_reply, notification_info_get}
+use Rattle.ffa_model.specs.Notifications.{Notifications, binding, bitmap_create, bitmap_destroy, class_of_entry, class_of, destroy_guards, create_guards, get_reply, has_bitmaps_in, has_pending, is_bindable, is_got, is_bound, is_bound_to_another, is_context, is_context_count, is_pending, is_unbindable, manager_class, normal_class, notification_bind, notification_get, notification_set, notification_unbind, notifications_of, partition_class, receiver_bit, receiver_of_entry, sender_of_entry, set_guards, with_bound, with_notifications, without_bitmaps, without_bound, without_pending}
 use Rattle.ffa_laws.specs.Steady.{IsSteady, IsSteadyBinding}
 use Rattle.ffa_laws.specs.View.{view}
-use Rattle.ffa_laws.specs.Events.{Bound, Event, Pending, Unbound, apply_all, binds, public_change, sets, unbinds, where_true}
+use Rattle.ffa_laws.specs.Events.{Bound, Event, Unbound, apply_all, binds, gets, notice_change, public_change, sets, unbinds, where_true}
+use Rattle.ffa_laws.specs.Notices.{notices_seen, pending_seen}
 use Rattle.ffa_model.proofs.Guards.{guard-passes, invalid, denied}
 use Rattle.ffa_laws.proofs.Maps.{map_at-set}
 use Rattle.ffa_laws.proofs.Form.{IsOwn, same-first}
@@ -29,19 +34,13 @@ use Rattle.ffa_laws.proofs.Steadies.{steady-notified}
 use Rattle.ffa_model.proofs.Sets.{Bits, among, contains-less, contains-more, contains-retained, same-itself, same_bits, same_elements}
 use Rattle.ffa_model.proofs.Accesses.{length-map_at}
 use Rattle.ffa_laws.proofs.Bitmaps.{among-each, bound-all, retained-both, retained-commute, retained-within, seen-less, seen-more, unbound-all, unseen-less, unseen-more}
-use Rattle.ffa_laws.proofs.Raised.{bitmaps-seen, own-bitmaps, raised, raised-absent, raised-hidden, raised-own}
+use Rattle.ffa_laws.proofs.Notices.{heard, none-seen, notice-applied, retained-empty, sees}
+use Rattle.ffa_laws.proofs.Raised.{and_second, bitmaps-seen, own-bitmaps, raised-seen, set-applied}
 use Rattle.ffa_laws.proofs.MessageLaws.{not-same}
 
--- what e sees of bindings and of pending bits
+-- what e sees of bindings
 abbrev bound_to : ℕ → List ℕ → Bool
 bound_to e x = receiver_of_entry x == e || sender_of_entry x == e
-
-abbrev pending_to : ℕ → List ℕ → Bool
-pending_to e x = receiver_of_entry x == e
-
-and_second : (a b : Bool) → b ≡ true → (a && b) ≡ a
-and_second true b is = is
-and_second false b is = refl
 
 more-bits : (m : ℕ) (g : ℕ → ℕ) (f : ℕ → List ℕ) (x : List ℕ) → (k : ℕ) × (k < m) × (x ≡ f (g (suc k))) → (k : ℕ) × (k < suc m) × (x ≡ f (g k))
 more-bits m g f x (k, lt, same) = (suc k, omega arith, same)
@@ -59,6 +58,34 @@ among-first true m g f x rest is later =
 among-bits : (test : ℕ → Bool) (m : ℕ) (g : ℕ → ℕ) (f : ℕ → List ℕ) (x : List ℕ) → among x (map f (filter test (listed m g))) ≡ true → (k : ℕ) × (k < m) × (x ≡ f (g k))
 among-bits test zero g f x is = absurd (false≢true is)
 among-bits test (suc m) g f x is = among-first (test (g 0)) m g f x (filter test (listed m (λ i. g (suc i)))) is (λ rest. among-bits test m (λ i. g (suc i)) f x rest)
+
+-- who hears of notices sets no bit as a partition does
+not-partition : (ffa : Ffa) (e : ℕ) → hears_notices ffa e ≡ true → (class_of e == partition_class) ≡ false
+not-partition V1_1 e hears = absurd (false≢true hears)
+not-partition V1_2 e hears = ap (λ b. cond b normal_class partition_class == partition_class) hears
+
+-- who hears of notices is the normal world
+hearer-first : (ffa : Ffa) (e : ℕ) → hears_notices ffa e ≡ true → (e == 0) ≡ true
+hearer-first V1_1 e hears = absurd (false≢true hears)
+hearer-first V1_2 e hears = hears
+
+-- and nobody else is
+other-deaf : (ffa : Ffa) (e : ℕ) → (0 == e) ≡ false → hears_notices ffa e ≡ false
+other-deaf ffa e away = elim (cases_Bool (hears_notices ffa e)) [
+  | inl hears ↦ absurd (true≢false (sym (eq-eqb 0 e (sym (eqb-true e 0 (hearer-first ffa e hears)))) ∙ away))
+  | inr deaf ↦ deaf
+]
+
+either-first : (b : Bool) → (b || false) ≡ true → b ≡ true
+either-first true is = refl
+either-first false is = is
+
+-- some notices go, of all or of none
+retained-notices : (e : ℕ) (s : State) (test : List ℕ → Bool) → finite_set.retain (notices_seen e s) test ≡ cond (hears_notices s.ffa e) (finite_set.retain s.notices test) finite_set.empty
+retained-notices e s test = elim (hears_notices s.ffa e) as (λ h. finite_set.retain (cond h s.notices finite_set.empty) test ≡ cond h (finite_set.retain s.notices test) finite_set.empty) [
+  | true ↦ refl
+  | false ↦ retained-empty test
+]
 
 -- ---- what the runner sees of its own
 module _ (s : State) (steady : IsSteady s) where
@@ -87,8 +114,8 @@ module _ (s : State) (steady : IsSteady s) where
 
   pending-seen : (class bit : ℕ) → is_pending nv s.runner class bit ≡ is_pending n s.runner class bit
   pending-seen class bit =
-      contains-retained s.pending (pending_to s.runner) (receiver_bit s.runner class bit)
-      ∙ and_second (finite_set.contains s.pending (receiver_bit s.runner class bit)) (s.runner == s.runner) (eq-eqb s.runner s.runner refl)
+      contains-retained s.pending (sees s.runner s) (receiver_bit s.runner class bit)
+      ∙ and_second (finite_set.contains s.pending (receiver_bit s.runner class bit)) (sees s.runner s (receiver_bit s.runner class bit)) (or_left (s.runner == s.runner) _ (eq-eqb s.runner s.runner refl))
 
   pending-same : is_pending nv s.runner ≡ is_pending n s.runner
   pending-same = fun_ext (λ class. fun_ext (λ bit. pending-seen class bit))
@@ -104,7 +131,7 @@ module _ (s : State) (steady : IsSteady s) where
     λ none. (
       (let is_first : (s.runner == 0) ≡ true = guard-passes (create_guards s.ffa n s.runner endpoint contexts) 0 (sym none) in
           let first : (0 == s.runner) ≡ true = eq-eqb 0 s.runner (sym (eqb-true s.runner 0 is_first)) in
-          λ i. record v { bitmaps = sym (map_at-set (λ j has. identifier j == s.runner && has) s.bitmaps 0 true ∙ ap (λ b. set v.bitmaps 0 (b && true)) first) i }),
+          λ i. record v { bitmaps = sym (map_at-set (λ j has. (identifier j == s.runner || hears_notices s.ffa s.runner) && has) s.bitmaps 0 true ∙ ap (λ b. set v.bitmaps 0 ((b || hears_notices s.ffa s.runner) && true)) first) i }),
       refl,
     ),
   )
@@ -125,7 +152,7 @@ module _ (s : State) (steady : IsSteady s) where
         ∷ (not (list_any (λ class. list_any (pending i class) (listed 64 (λ k. k))) (partition_class ∷ normal_class ∷ manager_class ∷ [])), denied) ∷ []))),
     λ none. (
       (λ i. record v {
-        bitmaps = sym (map_at-set (λ j has. identifier j == s.runner && has) s.bitmaps 0 false ∙ ap (set v.bitmaps 0) (and_false (0 == s.runner))) i;
+        bitmaps = sym (map_at-set (λ j has. (identifier j == s.runner || hears_notices s.ffa s.runner) && has) s.bitmaps 0 false ∙ ap (set v.bitmaps 0) (and_false (0 == s.runner || hears_notices s.ffa s.runner))) i;
         bound = retained-commute s.bound (bound_to s.runner) (λ x. not (receiver_of_entry x == 0)) i;
       }),
       refl,
@@ -195,7 +222,7 @@ module _ (s : State) (steady : IsSteady s) where
       λ none. (
         (let known : is_known s its.receiver.0 ≡ true = guard-passes (set_guards (length s.parties) n s.runner its) 1 (sym none) in
             let differ : its.receiver.0 ≢ s.runner = not-same its.receiver.0 s.runner (guard-passes (set_guards (length s.parties) n s.runner its) 2 (sym none)) in
-            raised-absent its.receiver.0 (class_of s.runner) ks s.runner s known differ ∙ sym (raised-hidden its.receiver.0 (class_of s.runner) ks s.runner s differ)),
+            raised-seen its.receiver.0 (class_of s.runner) ks s.runner s known differ (not-partition s.ffa s.runner)),
         refl,
       ),
     )
@@ -215,13 +242,34 @@ module _ (s : State) (steady : IsSteady s) where
         ∷ (own-bitmaps s.runner s steady.runner i, denied)
         ∷ [])),
     λ none. (
-      (λ i. record v { pending = retained-commute s.pending (pending_to s.runner) (λ x. not (receiver_of_entry x == s.runner && is_set (class_of_entry x) flags)) i }),
+      (λ i. record v {
+        pending = retained-commute s.pending (sees s.runner s) (λ x. not (is_got s.runner flags x)) i;
+        notices = retained-notices s.runner s (λ x. not (is_got s.runner flags x)) i;
+      }),
       reply,
     ),
   )
     where
       reply : get_reply nv s.runner flags ≡ get_reply n s.runner flags
       reply = ap (reply_by flags) pending-same
+
+  -- what the runner hears of notices it sees
+  pub own-notices : (is_wide : Bool) → IsOwn s (notification_info_get v is_wide) (notification_info_get s is_wide)
+  own-notices is_wide = (
+    same-first (hears_notices s.ffa s.runner) FunctionUnknown
+        ((list_any (has_notice nv) (listed (length s.parties) identifier), NothingToTell) ∷ [])
+        ((list_any (has_notice n) (listed (length s.parties) identifier), NothingToTell) ∷ []) (λ hears.
+        ap (λ heard. first_failure ((list_any (has_notice (record n { notices = heard })) (listed (length s.parties) identifier), NothingToTell) ∷ [])) (all-seen hears)),
+    λ none. (
+      (let hears = guard-passes (notice_guards s.ffa (length s.parties) n s.runner) 0 (sym none) in
+          λ i. record v { notices = sym (ap (λ b. cond b finite_set.empty finite_set.empty) hears) i }),
+      (let hears = guard-passes (notice_guards s.ffa (length s.parties) n s.runner) 0 (sym none) in
+          ap (λ heard. notice_reply is_wide (endpoints_to_tell (length s.parties) (record n { notices = heard }))) (all-seen hears)),
+    ),
+  )
+    where
+      all-seen : hears_notices s.ffa s.runner ≡ true → notices_seen s.runner s ≡ s.notices
+      all-seen hears = ap (λ b. cond b s.notices finite_set.empty) hears
 
   -- ---- steadiness: bindings keep their form
   pub steady-destroy : IsSteady (bitmap_destroy s 0).state
@@ -286,28 +334,44 @@ module _ (e : ℕ) (s : State) where
       (length-map_at _ s.pages) refl (by_told ∙ only_u) (ap (view e) (sym only_t) ∙ new ∙ only_u))
 
   pub other-set : is_known s e ≡ true → (its : NotificationBits) → view e (notification_set s its).state
-      ≡ apply_all e (view e s) (sets e s its.receiver.0 (bits_of its.bitmap) ++ public_change s (notification_set s its).state)
+      ≡ apply_all e (view e s) (sets e s its ++ public_change s (notification_set s its).state)
   other-set known its =
-      elim (its.receiver.0 == e) as (λ b. (its.receiver.0 == e) ≡ b → view e (notification_set s its).state
-      ≡ apply_all e (view e s) (where_true b (Pending (class_of s.runner) (bits_of its.bitmap) ∷ []) ++ public_change s (notification_set s its).state)) [
-        | true ↦ λ mine.
-            told-notified (notification_set s its).state (raised (view e s) e (class_of s.runner) (bits_of its.bitmap)) (Pending (class_of s.runner) (bits_of its.bitmap) ∷ []) refl refl refl
-            (ap (λ f. view e (raised s f (class_of s.runner) (bits_of its.bitmap))) (eqb-true its.receiver.0 e mine) ∙ sym (raised-own e (class_of s.runner) (bits_of its.bitmap) s known))
-        | false ↦ λ other.
-            told-notified (notification_set s its).state (view e s) [] refl refl refl
-            (raised-hidden its.receiver.0 (class_of s.runner) (bits_of its.bitmap) e s (λ same. true≢false (sym (eq-eqb its.receiver.0 e same) ∙ other)))
-      ] refl
+      let next = (notification_set s its).state in
+      told-notified next (heard e (view e s) next) (sets e s its) refl refl
+      (set-applied its.receiver.0 (class_of s.runner) (bits_of its.bitmap) s.pages s.pages s.buffers e s known (its.receiver.0 == e) refl) refl
 
   module _ (other : s.runner ≢ e) where
-    pub other-get : (receiver context flags : ℕ) → view e (notification_get s receiver context flags).state ≡ apply_all e (view e s) (public_change s (notification_get s receiver context flags).state)
-    other-get receiver context flags =
-        told-notified (notification_get s receiver context flags).state (view e s) [] refl refl refl
-        (λ i. record (view e s) { pending = retained-within s.pending (λ x. not (receiver_of_entry x == s.runner && is_set (class_of_entry x) flags)) (pending_to e) (λ x is. kept_in x is) i })
+    -- who doesn't hear of notices sees no bit that another gets
+    ungot : (flags : ℕ) → hears_notices s.ffa e ≡ false → pending_seen e s ≡ finite_set.retain (finite_set.retain s.pending (λ x. not (is_got s.runner flags x))) (sees e s)
+    ungot flags deaf = sym (retained-within s.pending (λ x. not (is_got s.runner flags x)) (sees e s) kept_in)
       where
-        kept_in : (x : List ℕ) → (receiver_of_entry x == e) ≡ true → not (receiver_of_entry x == s.runner && is_set (class_of_entry x) flags) ≡ true
+        kept_in : (x : List ℕ) → sees e s x ≡ true → not (is_got s.runner flags x) ≡ true
         kept_in x is =
-            let away : (receiver_of_entry x == s.runner) ≡ false = ap (λ f. f == s.runner) (eqb-true (receiver_of_entry x) e is) ∙ ne_eqb e s.runner (λ same. other (sym same)) in
+            let mine : (receiver_of_entry x == e || false) ≡ true = (λ i. receiver_of_entry x == e || (sym deaf i && not (class_of_entry x == partition_class))) ∙ is in
+            let away : (receiver_of_entry x == s.runner) ≡ false = ap (λ f. f == s.runner) (eqb-true (receiver_of_entry x) e (either-first (receiver_of_entry x == e) mine)) ∙ ne_eqb e s.runner (λ same. other (sym same)) in
             ap (λ b. not (b && is_set (class_of_entry x) flags)) away
+
+    pub other-get : (receiver context flags : ℕ) → view e (notification_get s receiver context flags).state
+        ≡ apply_all e (view e s) (gets e s receiver context flags ++ public_change s (notification_get s receiver context flags).state)
+    other-get receiver context flags = told-notified next (heard e (view e s) next) (gets e s receiver context flags) refl refl (by (hears_notices s.ffa e) refl) refl
+      where
+        next : State
+        next = (notification_get s receiver context flags).state
+
+        by : (h : Bool) → hears_notices s.ffa e ≡ h → apply_all e (view e s) (cond h (notice_change e s next) []) ≡ heard e (view e s) next
+        by true hears = notice-applied e s next (view e s) refl refl
+        by false deaf = λ i. record (view e s) { pending = ungot flags deaf i; notices = none-seen e s s.notices (without_pending (notifications_of s) s.runner flags).notices deaf i }
+
+    -- what nobody else hears of is told to nobody else
+    pub other-notices : (is_wide : Bool) → IsTold e s (notification_info_get s is_wide) []
+    other-notices is_wide none =
+        told-notified (notification_info_get s is_wide).state (view e s) [] refl refl refl
+        (λ i. record (view e s) { notices = none-seen e s finite_set.empty s.notices deaf i })
+      where
+        deaf : hears_notices s.ffa e ≡ false
+        deaf =
+            let hears = guard-passes (notice_guards s.ffa (length s.parties) (notifications_of s) s.runner) 0 (sym none) in
+            other-deaf s.ffa e (ne_eqb 0 e (λ same. other (eqb-true s.runner 0 (hearer-first s.ffa s.runner hears) ∙ same)))
 
     -- bindings of the runner as receiver, to a sender
     module _ (its : NotificationBits) where
@@ -380,15 +444,18 @@ module _ (e : ℕ) (s : State) where
                 (λ i. record (view e s) { bound = unseen-less (bound_to e) s.bound (map (bound_as to) its_bits) (unseen to differs) i })
           ] refl
 
-    -- bitmaps of the normal world, which runs, are not e's
+    -- bitmaps of the normal world, which runs, are not e's, and e doesn't see them
     first-away : (s.runner == 0) ≡ true → (0 == e) ≡ false
     first-away is = ne_eqb 0 e (λ same. other (eqb-true s.runner 0 is ∙ same))
 
-    bitmaps-away : (has : Bool) → (0 == e) ≡ false → map_at (λ j b. identifier j == e && b) (set s.bitmaps 0 has) ≡ (view e s).bitmaps
+    bitmaps-away : (has : Bool) → (0 == e) ≡ false → map_at (λ j b. (identifier j == e || hears_notices s.ffa e) && b) (set s.bitmaps 0 has) ≡ (view e s).bitmaps
     bitmaps-away has away =
-        map_at-set (λ j b. identifier j == e && b) s.bitmaps 0 has
-        ∙ ap (set (view e s).bitmaps 0) (ap (λ b. b && has) away ∙ sym (bitmaps-seen e 0 s ∙ ap (λ b. b && has_bitmaps_in (notifications_of s) 0) away))
+        map_at-set (λ j b. (identifier j == e || hears_notices s.ffa e) && b) s.bitmaps 0 has
+        ∙ ap (set (view e s).bitmaps 0) (ap (λ b. b && has) neither ∙ sym (bitmaps-seen e 0 s ∙ ap (λ b. b && has_bitmaps_in (notifications_of s) 0) neither))
         ∙ set-get_or (view e s).bitmaps 0 false
+      where
+        neither : (0 == e || hears_notices s.ffa e) ≡ false
+        neither = λ i. away i || other-deaf s.ffa e away i
 
     pub other-create : (endpoint contexts : ℕ) → IsTold e s (bitmap_create s endpoint contexts) []
     other-create endpoint contexts none =

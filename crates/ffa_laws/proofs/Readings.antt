@@ -31,7 +31,7 @@ use Rattle.ffa_model.proofs.Accesses.{length-map_at, named-in}
 use Rattle.ffa_model.proofs.Guards.{guard-passes}
 use Rattle.ffa_laws.specs.Steady.{IsSteady}
 use Rattle.ffa_laws.specs.View.{is_near, kept, view, involves, seen_by}
-use Rattle.ffa_laws.specs.Events.{Event, Wrote, Message, Filled, Pending, Bound, Unbound, Opened, Held, Zeroed, Closed, Public, apply, apply_all, events, where_true, with_public_buffers, with_holder, with_opened, with_public, call_events, public_change, releases, where_passed, writes}
+use Rattle.ffa_laws.specs.Events.{Event, Wrote, Message, Filled, Notices, Pending, Bound, Unbound, Opened, Held, Zeroed, Closed, Public, apply, apply_all, events, where_true, with_public_buffers, with_holder, with_opened, with_public, call_events, public_change, releases, where_passed, writes}
 use Rattle.ffa_laws.specs.Moves.{by_runner}
 use Rattle.ffa_laws.specs.OwnAccess.{AreApart, gives_access, is_call}
 use Rattle.ffa_laws.specs.Readable.{Confidential, all_readably, blank, blank_page, blank_where, blanked, is_unreadable, readable, readably, revealed}
@@ -275,6 +275,7 @@ module _ (e : ℕ) (hides : ℕ → Bool) where
   apply-blind v (Message x) = λ i. record v { pages = blanked-twice hides v.pages i }
   apply-blind v (Filled bytes) = λ i. record v { pages = filled-blind hides bytes (buffers_of v e) v.pages i }
   apply-blind v (Pending class bits) = λ i. record (apply e v (Pending class bits)) { pages = blanked-twice hides v.pages i }
+  apply-blind v (Notices values) = λ i. record (apply e v (Notices values)) { pages = blanked-twice hides v.pages i }
   apply-blind v (Bound receiver class bit) = λ i. record (apply e v (Bound receiver class bit)) { pages = blanked-twice hides v.pages i }
   apply-blind v (Unbound receiver class bit) = λ i. record (apply e v (Unbound receiver class bit)) { pages = blanked-twice hides v.pages i }
   apply-blind v (Opened h t pages) =

@@ -12,7 +12,7 @@ use Rattle.ffa_model.specs.declared.operation.Outcome.TheVariants.{Data, Done}
 use Rattle.ffa_model.specs.declared.rights.Kind.{Kind}
 use Rattle.ffa_model.specs.declared.rights.Kind.TheVariants.{Share, Lend, Donate}
 use Rattle.ffa_model.specs.declared.call.Call as calls
-use Rattle.ffa_model.specs.declared.call.Call.TheVariants.{RxRelease, RxtxMap, RxtxUnmap, PartitionInfoGet, MsgWait, Yield, Run, DirectRequest, DirectResponse, MemDonate, MemLend, MemShare, MemRetrieve, MemRelinquish, MemReclaim, BitmapDestroy, NotificationBind, NotificationUnbind, NotificationSet, MsgSend2, Version}
+use Rattle.ffa_model.specs.declared.call.Call.TheVariants.{RxRelease, RxtxMap, RxtxUnmap, PartitionInfoGet, MsgWait, Yield, Run, DirectRequest, DirectResponse, MemDonate, MemLend, MemShare, MemRetrieve, MemRelinquish, MemReclaim, BitmapDestroy, NotificationBind, NotificationUnbind, NotificationSet, NotificationGet, MsgSend2, Version}
 use Rattle.ffa_model.specs.SendDescriptor.{SendRecord}
 use Rattle.ffa_model.specs.State.{State, Page, Transaction, transaction_of}
 use Rattle.ffa_model.specs.Access.{is_offered, is_receiver, ownership_of}
@@ -36,6 +36,7 @@ use Rattle.ffa_laws.specs.OwnAccess.{is_call}
 use Rattle.ffa_laws.specs.Silence.{may_be_told, may_change_public, may_tell}
 use Rattle.ffa_laws.proofs.Form.{accessed-kept, served-kept}
 use Rattle.ffa_laws.proofs.Versions.{version-leaves}
+use Rattle.ffa_laws.proofs.Notices.{either-notified}
 use Rattle.ffa_laws.proofs.Publics.{told-of}
 
 -- ---- the public part
@@ -156,10 +157,17 @@ row-of e s (MemReclaim handle flags) = all-one (told_row (MemReclaim handle flag
 row-of e s (BitmapDestroy endpoint) = unbound e s (BitmapDestroy endpoint) 0 e (listed 64 (λ k. k)) (λ k. refl)
 row-of e s (NotificationBind its) = bound e s (NotificationBind its) s.runner its.sender.0 (bits_of its.bitmap) (λ k. refl)
 row-of e s (NotificationUnbind its) = unbound e s (NotificationUnbind its) s.runner its.sender.0 (bits_of its.bitmap) (λ k. refl)
-row-of e s (NotificationSet its) = all-one (told_row (NotificationSet its)) (its.receiver.0 == e) (Pending (class_of s.runner) (bits_of its.bitmap)) refl
+row-of e s (NotificationSet its) =
+    either-notified (λ es. list_all (told_row (NotificationSet its)) es ≡ true) e s (service s (NotificationSet its)).state _ refl (λ differ. refl)
+    (all-one (told_row (NotificationSet its)) (its.receiver.0 == e) (Pending (class_of s.runner) (bits_of its.bitmap)) refl)
+row-of e s (NotificationGet receiver context flags) =
+    either-notified (λ es. list_all (told_row (NotificationGet receiver context flags)) es ≡ true) e s (service s (NotificationGet receiver context flags)).state [] refl (λ differ. refl) refl
 row-of e s MsgSend2 =
-    all-where (told_row MsgSend2) ((header_in (tx_bytes s s.runner)).receiver == e) (Filled (message_in (tx_bytes s s.runner)) ∷ where_true (has_bitmaps_in (notifications_of s) e) (Pending manager_class message_bits ∷ []))
-    (all-one (told_row MsgSend2) (has_bitmaps_in (notifications_of s) e) (Pending manager_class message_bits) refl)
+    let mine = (header_in (tx_bytes s s.runner)).receiver == e in
+    all-both (told_row MsgSend2) (where_true mine (Filled (message_in (tx_bytes s s.runner)) ∷ [])) _
+    (all-one (told_row MsgSend2) mine (Filled (message_in (tx_bytes s s.runner))) refl)
+    (either-notified (λ es. list_all (told_row MsgSend2) es ≡ true) e s (service s MsgSend2).state _ refl (λ differ. refl)
+    (all-one (told_row MsgSend2) (mine && has_bitmaps_in (notifications_of s) e) (Pending manager_class message_bits) refl))
 row-of e s call = refl
 
 pub passed-row : {X : Type 0} (f : Event → Bool) (o : Option X) (es : List Event) → list_all f es ≡ true → list_all f (where_passed o es) ≡ true

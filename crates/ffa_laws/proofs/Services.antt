@@ -1,8 +1,8 @@
 -- SPDX-License-Identifier: MIT OR Apache-2.0
 -- What holds of each call: five lists, in each of which a new call has an entry, and one of those that change run states.
-use Rattle.std.proofs.Common.{◌≡◌, ◌≢◌, ℕ, true, false, Some, None, refl, sym, subst, cond, length}
+use Rattle.std.proofs.Common.{◌≡◌, ◌≢◌, ℕ, true, false, [], Some, None, refl, sym, subst, cond, length}
 use Rattle.ffa_model.specs.declared.call.Call as calls
-use Rattle.ffa_model.specs.declared.call.Call.TheVariants.{Version, Features, RxRelease, RxtxMap, RxtxUnmap, PartitionInfoGet, IdGet, MsgWait, Yield, Run, DirectRequest, DirectResponse, MemDonate, MemLend, MemShare, MemRetrieve, MemRelinquish, MemReclaim, BitmapCreate, BitmapDestroy, NotificationBind, NotificationUnbind, NotificationSet, NotificationGet, SpmIdGet, MsgSend2, Unknown}
+use Rattle.ffa_model.specs.declared.call.Call.TheVariants.{Version, Features, RxRelease, RxtxMap, RxtxUnmap, PartitionInfoGet, IdGet, MsgWait, Yield, Run, DirectRequest, DirectResponse, MemDonate, MemLend, MemShare, MemRetrieve, MemRelinquish, MemReclaim, BitmapCreate, BitmapDestroy, NotificationBind, NotificationUnbind, NotificationSet, NotificationGet, NotificationInfoGet, SpmIdGet, MsgSend2, Unknown}
 use Rattle.ffa_model.specs.State.{State, is_known, transaction_of, version_of, buffers_of}
 use Rattle.ffa_model.specs.Calls.{first_failure}
 use Rattle.ffa_model.specs.declared.rights.Kind.TheVariants.{Share, Lend, Donate}
@@ -10,9 +10,10 @@ use Rattle.ffa_model.specs.declared.schedule.Status.TheVariants.{Yielded}
 use Rattle.ffa_model.specs.Bits.{bits_of}
 use Rattle.ffa_model.specs.Buffers.{new_buffers, filled}
 use Rattle.ffa_model.specs.RunStates.{direct_request, direct_response, finished, given_cycles, requested, run_partition, schedule_of, status_in, switched, yield_now, msg_wait, Schedule, with_schedule}
-use Rattle.ffa_model.specs.Notifications.{class_of, notifications_of, with_bitmaps, with_pending, without_pending}
+use Rattle.ffa_model.specs.Notifications.{class_of, notifications_of, with_bitmaps, with_set, without_pending}
+use Rattle.ffa_model.specs.Notices.{without_notices}
 use Rattle.ffa_laws.proofs.Steadies.{steady-notified}
-use Rattle.ffa_laws.proofs.NotificationLaws.{other-bind, other-create, other-destroy, other-get, other-set, other-unbind, own-bind, own-create, own-destroy, own-get, own-set, own-unbind, steady-bind, steady-destroy, steady-unbind}
+use Rattle.ffa_laws.proofs.NotificationLaws.{other-bind, other-create, other-destroy, other-get, other-notices, other-set, other-unbind, own-bind, own-create, own-destroy, own-get, own-notices, own-set, own-unbind, steady-bind, steady-destroy, steady-unbind}
 use Rattle.ffa_model.specs.Step.{service}
 use Rattle.ffa_laws.specs.Steady.{IsSteady}
 use Rattle.ffa_laws.specs.View.{view}
@@ -42,13 +43,13 @@ use Rattle.ffa_laws.proofs.SoundBuffers.{filled-state-sound, map-sound, rx-sound
 use Rattle.ffa_laws.proofs.SoundKept.{schedule-sound, version-sound}
 use Rattle.ffa_laws.proofs.Versions.{other-version, own-version, steady-version, version-leaves}
 use Rattle.ffa_laws.proofs.SoundLaws.{same-elsewhere}
-use Rattle.ffa_laws.proofs.SoundNotifications.{bind-sound, create-sound, destroy-sound, framework-sound, get-sound, set-sound, unbind-sound}
+use Rattle.ffa_laws.proofs.SoundNotifications.{bind-sound, create-sound, destroy-sound, framework-sound, get-sound, notices-sound, set-sound, unbind-sound}
 use Rattle.ffa_laws.proofs.SoundPages.{informed-sound, sent-sound}
 use Rattle.ffa_laws.proofs.SoundRetrieves.{retrieve-sound}
 use Rattle.ffa_laws.proofs.SoundReturns.{reclaim-sound, relinquish-sound}
 use Rattle.ffa_laws.proofs.SoundSends.{send-sound}
 use Rattle.ffa_laws.proofs.SoundSteady.{sound-steady}
-use Rattle.ffa_laws.proofs.Showing.{Shows, no_delivery, no_message, no_messages, no_opening, no_releases, no_takes, quiet, informed-runs, offered-runs, relinquished-runs, retrieved-runs, switching}
+use Rattle.ffa_laws.proofs.Showing.{Shows, no_delivery, no_message, no_messages, no_news, no_opening, no_releases, no_takes, quiet, informed-runs, offered-runs, relinquished-runs, retrieved-runs, switching}
 use Rattle.ffa_laws.proofs.SoundSteps.{AreSound, IsScheduled, scheduled-request, scheduled-response, scheduled-run, scheduled-wait, scheduled-yield}
 
 -- what an endpoint does is done alike in its view
@@ -78,6 +79,7 @@ own-service s steady (NotificationBind its) = own-bind s steady its
 own-service s steady (NotificationUnbind its) = own-unbind s steady its
 own-service s steady (NotificationSet its) = own-set s steady its
 own-service s steady (NotificationGet receiver context flags) = own-get s steady receiver.0 context flags
+own-service s steady (NotificationInfoGet is_wide) = own-notices s steady is_wide
 own-service s steady MsgSend2 = own-send2 s steady
 own-service s steady Unknown = (refl, λ none. (refl, refl))
 
@@ -109,6 +111,7 @@ module _ (e : ℕ) (s : State) (steady : IsSteady s) (known : is_known s e ≡ t
   other-service (NotificationUnbind its) = λ none. other-unbind e s other its
   other-service (NotificationSet its) = λ none. other-set e s known its
   other-service (NotificationGet receiver context flags) = λ none. other-get e s other receiver.0 context flags
+  other-service (NotificationInfoGet is_wide) = other-notices e s other is_wide
   other-service MsgSend2 = other-send2 s steady e known
   other-service Unknown = λ none. other-same e s
 
@@ -137,8 +140,9 @@ steady-service s steady (BitmapCreate endpoint contexts) none = steady-notified 
 steady-service s steady (BitmapDestroy endpoint) none = steady-destroy s steady
 steady-service s steady (NotificationBind its) none = steady-bind s steady its
 steady-service s steady (NotificationUnbind its) none = steady-unbind s steady its
-steady-service s steady (NotificationSet its) none = steady-notified s steady (with_pending (notifications_of s) its.receiver.0 (class_of s.runner) (bits_of its.bitmap)) steady.bound
+steady-service s steady (NotificationSet its) none = steady-notified s steady (with_set (notifications_of s) its.receiver.0 (class_of s.runner) (bits_of its.bitmap)) steady.bound
 steady-service s steady (NotificationGet receiver context flags) none = steady-notified s steady (without_pending (notifications_of s) s.runner flags) steady.bound
+steady-service s steady (NotificationInfoGet is_wide) none = steady-notified s steady (without_notices (notifications_of s)) steady.bound
 steady-service s steady MsgSend2 none = steady-send2 s steady
 steady-service s steady Unknown none = steady
 
@@ -168,8 +172,9 @@ module _ (e : ℕ) (s : State) (differ : s.runner ≢ e) where
   shows-service (BitmapDestroy endpoint) = quiet e s differ (service s (BitmapDestroy endpoint)) (told_by e s (BitmapDestroy endpoint)) (no_messages e (e == e) _ _ (λ k. refl)) refl
   shows-service (NotificationBind its) = quiet e s differ (service s (NotificationBind its)) (told_by e s (NotificationBind its)) (no_messages e (its.sender.0 == e) _ _ (λ k. refl)) refl
   shows-service (NotificationUnbind its) = quiet e s differ (service s (NotificationUnbind its)) (told_by e s (NotificationUnbind its)) (no_messages e (its.sender.0 == e) _ _ (λ k. refl)) refl
-  shows-service (NotificationSet its) = quiet e s differ (service s (NotificationSet its)) (told_by e s (NotificationSet its)) (no_message e (its.receiver.0 == e) (Pending (class_of s.runner) (bits_of its.bitmap)) refl) refl
-  shows-service (NotificationGet receiver context flags) = quiet e s differ (service s (NotificationGet receiver context flags)) (told_by e s (NotificationGet receiver context flags)) refl refl
+  shows-service (NotificationSet its) = quiet e s differ (service s (NotificationSet its)) (told_by e s (NotificationSet its)) (no_news e s (service s (NotificationSet its)).state _ (no_message e (its.receiver.0 == e) (Pending (class_of s.runner) (bits_of its.bitmap)) refl)) refl
+  shows-service (NotificationGet receiver context flags) = quiet e s differ (service s (NotificationGet receiver context flags)) (told_by e s (NotificationGet receiver context flags)) (no_news e s (service s (NotificationGet receiver context flags)).state [] refl) refl
+  shows-service (NotificationInfoGet is_wide) = quiet e s differ (service s (NotificationInfoGet is_wide)) (told_by e s (NotificationInfoGet is_wide)) refl refl
   shows-service MsgSend2 = quiet e s differ (service s MsgSend2) (told_by e s MsgSend2) (no_delivery e s (tx_bytes s s.runner)) refl
   shows-service Unknown = quiet e s differ (service s Unknown) (told_by e s Unknown) refl refl
 
@@ -224,6 +229,7 @@ module _ (s : State) (sound : IsSoundState s) where
   sound-service (NotificationUnbind its) none = unbind-sound s sound its none
   sound-service (NotificationSet its) none = set-sound s sound its none
   sound-service (NotificationGet receiver context flags) none = get-sound s sound flags
+  sound-service (NotificationInfoGet is_wide) none = notices-sound s sound
   sound-service MsgSend2 none = sent none
   sound-service Unknown none = sound
 

@@ -1,6 +1,6 @@
 -- SPDX-License-Identifier: MIT OR Apache-2.0
 -- What a call shows to an endpoint, where nothing refuses it: messages, and who runs on.
-use Rattle.std.proofs.Common.{◌≡◌, ◌≢◌, ◌∙◌, ℕ, Bool, true, false, cond, List, [], ◌∷◌, ◌++◌, map, Option, Some, None, refl, sym, ap, ◌==◌, eqb-true, ne_eqb}
+use Rattle.std.proofs.Common.{◌≡◌, ◌≢◌, ◌∙◌, ℕ, Bool, true, false, cond, List, [], ◌∷◌, ◌++◌, map, Option, Some, None, refl, sym, ap, ◌==◌, ◌&&◌, eqb-true, ne_eqb}
 use Rattle.ffa_model.specs.declared.operation.Outcome.TheVariants.{Regs}
 use Rattle.ffa_model.specs.declared.rights.Kind.{Kind}
 use Rattle.ffa_model.specs.declared.rights.Kind.TheVariants.{Donate}
@@ -13,7 +13,7 @@ use Rattle.ffa_model.specs.Calls.{Service, encode}
 use Rattle.ffa_model.specs.Buffers.{filled}
 use Rattle.ffa_model.specs.Setup.{info_bytes}
 use Rattle.ffa_model.specs.RunStates.{schedule_of}
-use Rattle.ffa_model.specs.Messages.{header_in, message_in}
+use Rattle.ffa_model.specs.Messages.{header_in, message_in, msg_send2}
 use Rattle.ffa_model.specs.Notifications.{manager_class, message_bits, has_bitmaps_in, notifications_of}
 use Rattle.ffa_model.specs.SendDescriptor.{SendRecord}
 use Rattle.ffa_model.specs.MemorySend.{memory_sent, transaction_sent}
@@ -21,7 +21,8 @@ use Rattle.ffa_model.specs.MemoryRetrieve.{retrieve_read, retrieved, retrieved_f
 use Rattle.ffa_model.specs.HypervisorRetrieve.{memory_retrieve}
 use Rattle.ffa_model.specs.declared.call.Transfer.{Transfer}
 use Rattle.ffa_model.specs.MemoryReturn.{relinquished, relinquished_from}
-use Rattle.ffa_laws.specs.Events.{Event, Message, Filled, Pending, Held, Zeroed, delivers, message, messages, opens, releases, switches, takes, takes_from, taking, where_true}
+use Rattle.ffa_laws.specs.Events.{Event, Message, Filled, Pending, Held, Zeroed, delivers, message, messages, notified, opens, releases, switches, takes, takes_from, taking, where_true}
+use Rattle.ffa_laws.proofs.Notices.{either-notified}
 use Rattle.ffa_laws.proofs.ReadBacks.{either-kept}
 
 -- events that are no messages
@@ -34,13 +35,18 @@ no_messages e false f ks none = refl
 no_messages e true f [] none = refl
 no_messages e true f (k ∷ ks) none = (λ i. none k i ++ messages e (map f ks)) ∙ no_messages e true f ks none
 
+pub no_news : (e : ℕ) (s next : State) (own : List Event) → messages e own ≡ [] → messages e (notified e s next own) ≡ []
+no_news e s next own none = either-notified (λ es. messages e es ≡ []) e s next own refl (λ differ. refl) none
+
 pub no_delivery : (e : ℕ) (s : State) (tx : List ℕ) → messages e (delivers e s tx) ≡ []
-no_delivery e s tx = go ((header_in tx).receiver == e) (has_bitmaps_in (notifications_of s) e)
+no_delivery e s tx = go ((header_in tx).receiver == e)
   where
-    go : (b c : Bool) → messages e (where_true b (Filled (message_in tx) ∷ where_true c (Pending manager_class message_bits ∷ []))) ≡ []
-    go true true = refl
-    go true false = refl
-    go false c = refl
+    bit : (c : Bool) → messages e (notified e s (msg_send2 s).state (where_true c (Pending manager_class message_bits ∷ []))) ≡ []
+    bit c = no_news e s (msg_send2 s).state _ (no_message e c (Pending manager_class message_bits) refl)
+
+    go : (b : Bool) → messages e (where_true b (Filled (message_in tx) ∷ []) ++ notified e s (msg_send2 s).state (where_true ((header_in tx).receiver == e && has_bitmaps_in (notifications_of s) e) (Pending manager_class message_bits ∷ []))) ≡ []
+    go true = bit _
+    go false = bit _
 
 pub no_opening : (e : ℕ) (s : State) (kind : Kind) (r : Option SendRecord) → messages e (opens e s kind r) ≡ []
 no_opening e s kind None = refl

@@ -12,7 +12,8 @@ use Rattle.ffa_model.specs.Identifiers.{identifier, place}
 use Rattle.ffa_model.specs.Lists.{listed}
 use Rattle.ffa_model.specs.State.{State}
 use Rattle.ffa_model.specs.Calls.{first_failure}
-use Rattle.ffa_model.specs.Notifications.{Notifications, bind_guards, binding, class_of_entry, class_of, destroy_guards, has_bitmaps_in, has_pending, is_bindable, is_bound, is_bound_to_another, is_pending, is_unbindable, manager_class, normal_class, notifications_of, partition_class, receiver_bit, receiver_of_entry, message_bits, sender_of_entry, set_guards, unbind_guards, with_bitmaps, with_bound, with_notifications, with_pending, without_bitmaps, without_bound, without_pending}
+use Rattle.ffa_model.specs.Notifications.{Notifications, bind_guards, binding, class_of_entry, class_of, destroy_guards, has_bitmaps_in, has_pending, is_bindable, is_bound, is_bound_to_another, is_got, is_pending, is_unbindable, manager_class, normal_class, notifications_of, partition_class, receiver_bit, receiver_of_entry, message_bits, sender_of_entry, set_guards, unbind_guards, with_bitmaps, with_bound, with_notifications, with_set, without_bitmaps, without_bound, without_pending}
+use Rattle.ffa_model.specs.Notices.{without_notices}
 use Rattle.ffa_model.specs.SoundState.{IsKnown, IsSoundBinding, IsSoundPending, IsSoundState}
 use Rattle.ffa_model.proofs.Guards.{guard-passes}
 use Rattle.ffa_model.proofs.NamedPages.{each-listed}
@@ -87,12 +88,12 @@ module _ (s : State) (sound : IsSoundState s) where
   same-pending m x good bound =
       record { receiver = good.receiver; class = good.class; bit = good.bit; is = good.is; to_known = good.to_known; of_class = good.of_class; in_word = good.in_word; bound = bound }
 
-  -- other pending bits
-  pending-sound : (pending : Bits) → ((x : List ℕ) → finite_set.contains pending x ≡ true → IsSoundPending s x) → IsSoundState (with_notifications s (record n { pending = pending }))
-  pending-sound pending each =
-      notifications-sound s sound (record n { pending = pending }) sound.sized.bitmaps
-      (λ x is. let good = sound.bound x is in same-binding (record n { pending = pending }) x good good.bitmaps good.alone)
-      (λ x is. let good = each x is in same-pending (record n { pending = pending }) x good good.bound)
+  -- other pending bits, and any notices
+  pending-sound : (pending notices : Bits) → ((x : List ℕ) → finite_set.contains pending x ≡ true → IsSoundPending s x) → IsSoundState (with_notifications s (record n { pending = pending; notices = notices }))
+  pending-sound pending notices each =
+      notifications-sound s sound (record n { pending = pending; notices = notices }) sound.sized.bitmaps
+      (λ x is. let good = sound.bound x is in same-binding (record n { pending = pending; notices = notices }) x good good.bitmaps good.alone)
+      (λ x is. let good = each x is in same-pending (record n { pending = pending; notices = notices }) x good good.bound)
 
   -- ---- FFA_NOTIFICATION_BITMAP_CREATE and FFA_NOTIFICATION_BITMAP_DESTROY
   pub create-sound : IsSoundState (with_notifications s (with_bitmaps n 0))
@@ -257,7 +258,7 @@ module _ (s : State) (sound : IsSoundState s) where
 
   -- ---- FFA_NOTIFICATION_SET and the manager's bit
   raised-sound : (f class : ℕ) (ks : List ℕ) → ((x : List ℕ) → among x (map (receiver_bit f class) ks) ≡ true → IsSoundPending s x) → IsSoundState (raised s f class ks)
-  raised-sound f class ks each = pending-sound (with_pending n f class ks).pending (of (has_bitmaps_in n f))
+  raised-sound f class ks each = pending-sound (with_set n f class ks).pending (with_set n f class ks).notices (of (has_bitmaps_in n f))
     where
       of : (b : Bool) (x : List ℕ) → finite_set.contains (cond b (finite_set.union s.pending (finite_set.from_list (map (receiver_bit f class) ks))) s.pending) x ≡ true → IsSoundPending s x
       of true x is = elim (or_cases (finite_set.contains s.pending x) (among x (map (receiver_bit f class) ks)) (sym (contains-more s.pending (map (receiver_bit f class) ks) x) ∙ is)) [
@@ -270,7 +271,7 @@ module _ (s : State) (sound : IsSoundState s) where
   bound_to f k = is_bound n f (class_of s.runner) k s.runner
 
   pub set-sound : (its : NotificationBits) → first_failure (set_guards (length s.parties) n s.runner its) ≡ None
-      → IsSoundState (with_notifications s (with_pending n its.receiver.0 (class_of s.runner) (bits_of its.bitmap)))
+      → IsSoundState (with_notifications s (with_set n its.receiver.0 (class_of s.runner) (bits_of its.bitmap)))
   set-sound its none =
       raised-sound its.receiver.0 (class_of s.runner) (bits_of its.bitmap) (λ x is.
       let (k, passes, same) = among-passed (is_bit (bound_to its.receiver.0)) (receiver_bit its.receiver.0 (class_of s.runner)) (bits_of its.bitmap) x all is in
@@ -288,14 +289,18 @@ module _ (s : State) (sound : IsSoundState s) where
       all : list_all (is_bit (bound_to its.receiver.0)) (bits_of its.bitmap) ≡ true
       all = bits-pass (bound_to its.receiver.0) its.bitmap (guard-passes (set_guards (length s.parties) n s.runner its) 5 (sym none))
 
-  pub framework-sound : (f : ℕ) → IsKnown s f → IsSoundState (with_notifications s (with_pending n f manager_class message_bits))
+  pub framework-sound : (f : ℕ) → IsKnown s f → IsSoundState (with_notifications s (with_set n f manager_class message_bits))
   framework-sound f to = raised-sound f manager_class message_bits (λ x is.
       let (k, passes, same) = among-passed (λ k. k == 0) (receiver_bit f manager_class) message_bits x refl is in
       let first = eqb-true k 0 passes in
       record { receiver = f; class = manager_class; bit = k; is = same; to_known = to; of_class = omega arith; in_word = omega (arith, first); bound = λ lt. absurd (omega arith) })
 
+  -- ---- FFA_NOTIFICATION_INFO_GET
+  pub notices-sound : IsSoundState (with_notifications s (without_notices n))
+  notices-sound = pending-sound s.pending finite_set.empty (λ x is. sound.pending x is)
+
   -- ---- FFA_NOTIFICATION_GET
   pub get-sound : (flags : ℕ) → IsSoundState (with_notifications s (without_pending n s.runner flags))
   get-sound flags =
-      pending-sound (without_pending n s.runner flags).pending (λ x is.
-      sound.pending x (and_parts (finite_set.contains s.pending x) _ (sym (contains-retained s.pending (λ y. not (receiver_of_entry y == s.runner && is_set (class_of_entry y) flags)) x) ∙ is)).0)
+      pending-sound (without_pending n s.runner flags).pending (without_pending n s.runner flags).notices (λ x is.
+      sound.pending x (and_parts (finite_set.contains s.pending x) _ (sym (contains-retained s.pending (λ y. not (is_got s.runner flags y)) x) ∙ is)).0)

@@ -25,14 +25,15 @@ use Rattle.ffa_model.specs.Memory.{fault_of, page_bytes, run_bytes, size_of}
 use Rattle.ffa_model.specs.DescriptorPlaces.{in_version}
 use Rattle.ffa_model.specs.MemorySend.{is_told_normal, memory_sent, send_read, transaction_from, transaction_sent}
 use Rattle.ffa_model.specs.MemoryRetrieve.{retrieve_read, right_for}
-use Rattle.ffa_model.specs.Messages.{tx_bytes}
+use Rattle.ffa_model.specs.Messages.{delivered, header_in, message_in, tx_bytes}
+use Rattle.ffa_model.specs.Notifications.{has_bitmaps_in, manager_class, message_bits, notifications_of}
 use Rattle.ffa_model.specs.Registers.{decode}
 use Rattle.ffa_model.specs.RunStates.{Schedule, msg_wait}
 use Rattle.ffa_model.specs.Step.{serve, service, step}
 use Rattle.ffa_model.specs.Transactions.{next_handle, open_of}
 use Rattle.ffa_model.proofs.Runs.{flat-run-same}
 use Rattle.ffa_laws.specs.View.{involves, is_near, kept, view}
-use Rattle.ffa_laws.specs.Events.{Event, Wrote, Message, Opened, Zeroed, call_events, delivers, events, messages, named_pages, opens, public_change, releases, takes, takes_from, taking, told_by, where_passed, where_true}
+use Rattle.ffa_laws.specs.Events.{Event, Wrote, Message, Filled, Pending, Opened, Zeroed, call_events, events, messages, named_pages, notified, opens, public_change, releases, takes, takes_from, taking, told_by, where_passed, where_true}
 use Rattle.ffa_laws.specs.Readable.{all_readably, blank, blank_where, blanked, is_unreadable, readable, readably, revealed}
 use Rattle.ffa_laws.proofs.Blanks.{access-b, access_at-b, ownership-b, blank-twice, call-b, outcome-b, page-b, sent-b, service-b, state-b}
 use Rattle.ffa_laws.proofs.Form.{waited-runs}
@@ -131,7 +132,10 @@ module _ (e : ℕ) (s : State) (hides : ℕ → Bool) where
       told-b (MemRetrieve x) =
           ap (all_readably e s) (ap (λ tx. takes e b (retrieve_of s.ffa s.runner (in_version (version_of s s.runner) (take x.total tx)))) tx-b ∙ taken-b (retrieve_read s x.total))
       told-b MemRelinquish = ap (λ tx. all_readably e s (releases e s (relinquish_of tx))) tx-b
-      told-b MsgSend2 = ap (λ tx. all_readably e s (delivers e s tx)) tx-b
+      told-b MsgSend2 =
+          ap (λ tx. all_readably e s (where_true ((header_in tx).receiver == e) (Filled (message_in tx) ∷ [])
+          ++ notified e s (delivered s (header_in tx).receiver (message_in tx))
+          (where_true ((header_in tx).receiver == e && has_bitmaps_in (notifications_of s) e) (Pending manager_class message_bits ∷ [])))) tx-b
       told-b call = refl
 
       passed : {X : Type 0} (o : Option X) (xs ys : List Event) → all_readably e s xs ≡ all_readably e s ys → all_readably e s (where_passed o xs) ≡ all_readably e s (where_passed o ys)

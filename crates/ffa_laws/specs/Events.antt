@@ -15,7 +15,8 @@ use Rattle.ffa_model.specs.declared.operation.Op.TheVariants.{Call, Store}
 use Rattle.ffa_model.specs.declared.operation.Outcome.{Outcome}
 use Rattle.ffa_model.specs.declared.operation.Outcome.TheVariants.{Regs}
 use Rattle.ffa_model.specs.declared.call.Call as calls
-use Rattle.ffa_model.specs.declared.call.Call.TheVariants.{MsgWait, Yield, Run, DirectRequest, DirectResponse, MemDonate, MemLend, MemShare, MemRetrieve, MemRelinquish, MemReclaim, BitmapDestroy, NotificationBind, NotificationUnbind, NotificationSet, MsgSend2}
+use Rattle.ffa_model.specs.declared.call.NotificationBits.{NotificationBits}
+use Rattle.ffa_model.specs.declared.call.Call.TheVariants.{MsgWait, Yield, Run, DirectRequest, DirectResponse, MemDonate, MemLend, MemShare, MemRetrieve, MemRelinquish, MemReclaim, BitmapDestroy, NotificationBind, NotificationUnbind, NotificationSet, NotificationGet, MsgSend2}
 use Rattle.ffa_model.specs.Numbers.{HandleNumber, Identifier}
 use Rattle.ffa_model.specs.Bits.{bits_of}
 use Rattle.ffa_model.specs.Lists.{listed, map_at}
@@ -26,14 +27,16 @@ use Rattle.ffa_model.specs.Calls.{Service, encode, first_failure}
 use Rattle.ffa_model.specs.Memory.{changed_pages, size_of, store_fault, stored, with_pages, zeroed_page}
 use Rattle.ffa_model.specs.Buffers.{filled_pages}
 use Rattle.ffa_model.specs.RunStates.{direct_request, direct_response, msg_wait, run_partition, yield_now}
-use Rattle.ffa_model.specs.Messages.{header_in, message_in, tx_bytes}
-use Rattle.ffa_model.specs.Notifications.{binding, class_of, has_bitmaps_in, is_bound, manager_class, notifications_of, message_bits, with_notifications, with_pending}
+use Rattle.ffa_model.specs.Messages.{header_in, message_in, msg_send2, tx_bytes}
+use Rattle.ffa_model.specs.Notices.{hears_notices}
+use Rattle.ffa_model.specs.Notifications.{binding, class_of, has_bitmaps_in, is_bound, manager_class, message_bits, notification_get, notification_set, notifications_of, with_notifications, with_pending}
 use Rattle.ffa_model.specs.SendDescriptor.{SendRecord}
 use Rattle.ffa_model.specs.Transactions.{holding, next_handle, not_holding, open_of, with_open, with_transaction}
 use Rattle.ffa_model.specs.MemorySend.{memory_sent, send_read, transaction_sent}
 use Rattle.ffa_model.specs.MemoryRetrieve.{retrieve_read, right_for}
 use Rattle.ffa_model.specs.MemoryReturn.{named_ranges, relinquish_read}
 use Rattle.ffa_model.specs.Step.{serve, service, step}
+use Rattle.ffa_laws.specs.Notices.{NoticePart, notice_part, same_notices}
 use Rattle.ffa_laws.specs.Public.{PublicPart, public_part, same_public}
 use Rattle.ffa_laws.specs.View.{involves, is_near, kept}
 use Rattle.std.proofs.Common.{inl, inr}
@@ -50,6 +53,7 @@ pub data Event : Type 0 where
   Zeroed : (handle : ℕ) → Event
   Closed : (handle : ℕ) → Event
   Public : (values : PublicPart) → Event
+  Notices : (values : NoticePart) → Event
 
 -- APPLY: what an event changes in the view of e
 
@@ -108,6 +112,7 @@ apply e v (Held h f right) = with_holder v h f right (transaction_of v h)
 apply e v (Zeroed h) = with_pages v (named_ranges (transaction_of v h)) zeroed_page
 apply e v (Closed h) = without v h
 apply e v (Public values) = with_public v values
+apply e v (Notices values) = record v { pending = values.pending; notices = values.notices }
 
 abbrev pub apply_all : Identifier → State → List Event → State
 apply_all e v [] = v
@@ -132,11 +137,21 @@ writes e s address bytes = where_true (is_near e s ((address - s.ram_base) / 409
 abbrev pub switches : Identifier → Service → List Event
 switches e service = where_true (service.state.runner == e) (Message (encode service.reply) ∷ [])
 
+-- what e hears of notices, where it changed in a state that follows
+abbrev pub notice_change : Identifier → State → State → List Event
+notice_change e s next =
+    elim (same_notices (notice_part e s) (notice_part e next)) [ inl same ↦ [] | inr differ ↦ Notices (notice_part e next) ∷ [] ]
+
+-- what e is told of bits that are set or got: who hears of notices is told of those, and anyone else of its own bits alone
+abbrev pub notified : Identifier → State → State → List Event → List Event
+notified e s next own = if hears_notices s.ffa e then notice_change e s next else own
+
 -- an indirect message to e
 abbrev pub delivers : Identifier → State → List ℕ → List Event
 delivers e s tx =
-    where_true ((header_in tx).receiver == e)
-    (Filled (message_in tx) ∷ where_true (has_bitmaps_in (notifications_of s) e) (Pending manager_class message_bits ∷ []))
+    where_true ((header_in tx).receiver == e) (Filled (message_in tx) ∷ [])
+    ++ notified e s (msg_send2 s).state
+    (where_true ((header_in tx).receiver == e && has_bitmaps_in (notifications_of s) e) (Pending manager_class message_bits ∷ []))
 
 -- a send to e, with the pages after it
 abbrev pub opens : Identifier → State → Kind → Option SendRecord → List Event
@@ -182,9 +197,14 @@ unbinds e s receiver sender ks =
     where_true (sender == e)
     (map (λ k. Unbound receiver (class_of e) k) (filter (λ k. is_bound (notifications_of s) receiver (class_of e) k e) ks))
 
--- the runner makes bits of e pending
-abbrev pub sets : Identifier → State → Identifier → List ℕ → List Event
-sets e s receiver ks = where_true (receiver == e) (Pending (class_of s.runner) ks ∷ [])
+-- the runner makes bits pending, and gets its own
+abbrev pub sets : Identifier → State → NotificationBits → List Event
+sets e s its =
+    notified e s (notification_set s its).state
+    (where_true (its.receiver.0 == e) (Pending (class_of s.runner) (bits_of its.bitmap) ∷ []))
+
+abbrev pub gets : Identifier → State → Identifier → ℕ → ℕ → List Event
+gets e s receiver context flags = notified e s (notification_get s receiver context flags).state []
 
 -- what a call that nothing refuses tells e besides the public part; those that are not listed tell nothing
 abbrev pub told_by : Identifier → State → calls.Call → List Event
@@ -202,7 +222,8 @@ told_by e s (MemReclaim handle flags) = closes e s handle.0
 told_by e s (BitmapDestroy endpoint) = unbinds e s 0 e (listed 64 (λ k. k))
 told_by e s (NotificationBind its) = binds e s s.runner its.sender.0 (bits_of its.bitmap)
 told_by e s (NotificationUnbind its) = unbinds e s s.runner its.sender.0 (bits_of its.bitmap)
-told_by e s (NotificationSet its) = sets e s its.receiver.0 (bits_of its.bitmap)
+told_by e s (NotificationSet its) = sets e s its
+told_by e s (NotificationGet receiver context flags) = gets e s receiver.0 context flags
 told_by e s MsgSend2 = delivers e s (tx_bytes s s.runner)
 told_by e s call = []
 

@@ -1,5 +1,6 @@
 -- SPDX-License-Identifier: MIT OR Apache-2.0
 pub mod Public
+pub mod Notices
 pub mod View
 pub mod Events
 pub mod Steady

@@ -6,7 +6,7 @@ use Rattle.std.specs.List.{list_all}
 use Rattle.ffa_model.specs.declared.operation.Op.{Op}
 use Rattle.ffa_model.specs.declared.operation.Op.TheVariants.{Call, Store}
 use Rattle.ffa_model.specs.declared.call.Call as calls
-use Rattle.ffa_model.specs.declared.call.Call.TheVariants.{RxRelease, RxtxMap, RxtxUnmap, PartitionInfoGet, MsgWait, Yield, Run, DirectRequest, DirectResponse, MemDonate, MemLend, MemShare, MemRetrieve, MemRelinquish, MemReclaim, BitmapDestroy, NotificationBind, NotificationUnbind, NotificationSet, MsgSend2}
+use Rattle.ffa_model.specs.declared.call.Call.TheVariants.{RxRelease, RxtxMap, RxtxUnmap, PartitionInfoGet, MsgWait, Yield, Run, DirectRequest, DirectResponse, MemDonate, MemLend, MemShare, MemRetrieve, MemRelinquish, MemReclaim, BitmapDestroy, NotificationBind, NotificationUnbind, NotificationSet, NotificationGet, MsgSend2}
 use Rattle.ffa_model.specs.Numbers.{Identifier}
 use Rattle.ffa_model.specs.Bits.{bits_of}
 use Rattle.ffa_model.specs.State.{State, buffers_of, is_known, page_at, transaction_of}
@@ -15,8 +15,9 @@ use Rattle.ffa_model.specs.Notifications.{has_bitmaps_in, notifications_of}
 use Rattle.ffa_model.specs.SoundState.{IsSoundState}
 use Rattle.ffa_model.specs.Registers.{decode}
 use Rattle.ffa_laws.specs.View.{view}
-use Rattle.ffa_laws.specs.Events.{Event, Wrote, Message, Filled, Pending, Bound, Unbound, Opened, Held, Zeroed, Closed, Public, apply, named_pages}
+use Rattle.ffa_laws.specs.Events.{Event, Wrote, Message, Filled, Pending, Bound, Unbound, Opened, Held, Zeroed, Closed, Public, Notices, apply, named_pages}
 use Rattle.ffa_laws.specs.Move.{Move}
+use Rattle.ffa_laws.specs.Notices.{notice_part}
 use Rattle.ffa_laws.specs.Public.{public_part}
 
 -- the calls that may change the public part
@@ -44,7 +45,10 @@ may_tell (DirectRequest message) (Message x) = true
 may_tell (DirectResponse message) (Message x) = true
 may_tell MsgSend2 (Filled bytes) = true
 may_tell MsgSend2 (Pending class bits) = true
+may_tell MsgSend2 (Notices values) = true
 may_tell (NotificationSet its) (Pending class bits) = true
+may_tell (NotificationSet its) (Notices values) = true
+may_tell (NotificationGet receiver context flags) (Notices values) = true
 may_tell (NotificationBind its) (Bound receiver class bit) = true
 may_tell (NotificationUnbind its) (Unbound receiver class bit) = true
 may_tell (BitmapDestroy endpoint) (Unbound receiver class bit) = true
@@ -96,9 +100,10 @@ AreMet e v (event ∷ later) = (is_met e v event ≡ true) × AreMet e (apply e 
 -- That all that an event says goes into the view of e, which is v after it: `apply` leaves nothing out. A write has bytes and
 -- isn't below RAM; bytes past a page's end would make the page longer. What fills RX has room in it. Pending bits are those of a
 -- word, each once and in order, and there are some. With a transaction that is opened come the pages of the view that its ranges
--- name, and the public part is the view's. Of a bit that is bound or unbound, a holder, and a transaction that is closed nothing
--- is left out where they change the view (`AreNews`), and the one whose pages are zeroed stands in the view (`AreMet`). A message
--- changes nothing: its registers are the operation's outcome (`Shown`, of a run of this operation alone).
+-- name, and the public part is the view's, as is what it hears of notices. Of a bit that is bound or unbound, a holder, and a
+-- transaction that is closed nothing is left out where they change the view (`AreNews`), and the one whose pages are zeroed stands
+-- in the view (`AreMet`). A message changes nothing: its registers are the operation's outcome (`Shown`, of a run of this
+-- operation alone).
 -- Without this law an event could carry every page of RAM and meet all other laws. There is a row for each event,
 -- because one rule for all would have to say which part of a view an event is about.
 abbrev pub IsBare : Identifier → State → Event → Type 0
@@ -107,6 +112,7 @@ IsBare e v (Filled bytes) = length bytes ≤ room_of (buffers_of v e)
 IsBare e v (Pending class bits) = (bits ≢ []) × ((word : ℕ) × (bits ≡ bits_of word))
 IsBare e v (Opened h t pages) = pages ≡ named_pages v t.ranges
 IsBare e v (Public values) = values ≡ public_part v
+IsBare e v (Notices values) = values ≡ notice_part e v
 IsBare e v event = Unit {0}
 
 -- events that are told to e one after another, from a view on: all that each says goes into the view

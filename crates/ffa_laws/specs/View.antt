@@ -1,7 +1,7 @@
 -- SPDX-License-Identifier: MIT OR Apache-2.0
 -- What an endpoint can know of a state: the state itself, with all else left out or blank. A page that isn't near it is None, as
--- one of the manager is; transactions, holders and bits that it doesn't know of are left out; another's count of sends is 0, and
--- whether another has bitmaps is false; and another's buffers are in no page of RAM.
+-- one of the manager is; transactions, holders, bits and notices that it doesn't know of are left out; another's count of sends is
+-- 0, and whether another has bitmaps is false, but to who hears of notices; and another's buffers are in no page of RAM.
 use Rattle.std.specs.Prelude.{ℕ, ◌==◌, Bool, ◌&&◌, ◌||◌, length, map as each, Option, None, if◌then◌else◌}
 use Rattle.std.specs.Ordering.{nat_cmp}
 use Rattle.std.specs.Option.{option_map}
@@ -13,7 +13,9 @@ use Rattle.ffa_model.specs.Lists.{map_at}
 use Rattle.ffa_model.specs.Identifiers.{identifier}
 use Rattle.ffa_model.specs.State.{State, Transaction, Buffers, owner_of, transaction_of}
 use Rattle.ffa_model.specs.Access.{is_from, is_offered, transaction_at}
+use Rattle.ffa_model.specs.Notices.{hears_notices}
 use Rattle.ffa_model.specs.Notifications.{receiver_of_entry, sender_of_entry}
+use Rattle.ffa_laws.specs.Notices.{notices_seen, pending_seen}
 
 -- whether e sent a transaction, or is offered it
 abbrev pub involves : Identifier → Option Transaction → Bool
@@ -47,7 +49,8 @@ buffers_seen e past i b = if identifier i == e then b else hidden past b
 
 -- The constants are public, and so are who runs, each status and work, and of each endpoint's buffers whether they are
 -- mapped, how many pages they have, and whether RX is full. Of the sends and of who has bitmaps e knows its own element;
--- of the bits that are bound, those that it receives or sends; of those that are pending, its own.
+-- of the bits that are bound, those that it receives or sends; of those that are pending, its own. Who hears of notices knows
+-- them all, who has bitmaps, and what is pending of others but for what partitions set.
 -- A view is a state with blanks, so that the step itself runs on it (`Replays`). A type of its own would need 18 more
 -- lines to believe, which turn it into a state, and a proof that it tells the same states apart.
 abbrev pub view : Identifier → State → State
@@ -66,7 +69,8 @@ view e s =
       runner = s.runner;
       statuses = s.statuses;
       works = s.works;
-      bitmaps = map_at (λ i has. identifier i == e && has) s.bitmaps;
+      bitmaps = map_at (λ i has. (identifier i == e || hears_notices s.ffa e) && has) s.bitmaps;
       bound = finite_set.retain s.bound (λ x. receiver_of_entry x == e || sender_of_entry x == e);
-      pending = finite_set.retain s.pending (λ x. receiver_of_entry x == e);
+      pending = pending_seen e s;
+      notices = notices_seen e s;
     }
