@@ -1,13 +1,11 @@
 -- SPDX-License-Identifier: MIT OR Apache-2.0
 -- What a contract sees of a machine that C holds: the machine as the selected processor sees it, who runs on each
--- other one, whether its RAM is lent, and which notifications the normal world has been told of.
+-- other one, and whether its RAM is lent.
 use Rattle.std.specs.Prelude.{Bool, true, false, List, ℕ, Option, Some, refl}
 use Rattle.std.specs.Option.{option_map}
 use Rattle.std.specs.Ptr.{Ptr}
 use Rattle.std.specs.Coded.{Coded, code_by, coded_bool, coded×}
-use Rattle.ffa_model.specs.Codes.{coded_bits}
 use Rattle.ffa_model.specs.Processors.{Processors}
-use Rattle.ffa_notify.specs.Notices.{Told}
 use Rattle.ffa_spmc.specs.Clustered.{Clustered, coded_clustered}
 use Rattle.ffa_spmc.specs.Snapshot.{Snapshot}
 use Rattle.ffa_c.specs.declared.kind.BoardMachine.{BoardMachine}
@@ -17,24 +15,22 @@ pub record Boarded : Type 0 where
   pub machine : Snapshot
   pub processors : Processors
   pub is_lent : Bool
-  pub notices : Told
 
 -- the machine that processors run
 abbrev pub cluster_of : Boarded → Clustered
 cluster_of b = record { machine = b.machine; processors = b.processors }
 
-abbrev pub boarded_by : Clustered → Bool → Told → Boarded
-boarded_by cluster is_lent notices =
-    record { machine = cluster.machine; processors = cluster.processors; is_lent = is_lent; notices = notices }
+abbrev pub boarded_by : Clustered → Bool → Boarded
+boarded_by cluster is_lent = record { machine = cluster.machine; processors = cluster.processors; is_lent = is_lent }
 
 abbrev pub coded_boarded : Coded Boarded
 coded_boarded =
-    code_by (Clustered × (Bool × Told)) (coded× coded_clustered (coded× coded_bool coded_bits))
-    (λ b. (cluster_of b, (b.is_lent, b.notices))) (λ p. boarded_by p.0 p.1.0 p.1.1) (λ _. refl)
+    code_by (Clustered × Bool) (coded× coded_clustered coded_bool) (λ b. (cluster_of b, b.is_lent))
+    (λ p. boarded_by p.0 p.1) (λ _. refl)
 
-abbrev pub boarded : BoardMachine → Told → Boarded
-boarded (Heap cluster) notices = boarded_by cluster false notices
-boarded (Lent cluster) notices = boarded_by cluster true notices
+abbrev pub boarded : BoardMachine → Boarded
+boarded (Heap cluster) = boarded_by cluster false
+boarded (Lent cluster) = boarded_by cluster true
 
 -- what lies behind a pointer that holds a machine, or none: a seat with the machine in it, or nothing
 abbrev pub seated : Option Boarded → Option (Option Boarded)

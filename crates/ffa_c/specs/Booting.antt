@@ -3,7 +3,6 @@
 use Rattle.std.specs.Prelude.{◌≡◌, ◌≢◌, ◌⊎◌, ⊤, ℕ, ◌*◌, ◌<◌, Bool, List, [], length, replicate, slice_index_or, Option, None, Some, Ok, Err, IsUtf8}
 use Rattle.ffa_model.specs.Agreement.{Agrees}
 use Rattle.ffa_model.specs.First.{first, first_held}
-use Rattle.std.specs.FinSet as finite_set
 use Rattle.ffa_model.specs.Processors.{first_processors}
 use Rattle.ffa_model.specs.Ram.{page_of}
 use Rattle.ffa_model.specs.SoundState.{IsSoundState}
@@ -63,15 +62,14 @@ abbrev pub IsFirstBy : FirstBytes → List (List ℕ) → Parts → Snapshot →
 IsFirstBy Cleared pages parts s = IsFirst parts s
 IsFirstBy Kept pages parts s = IsFirstHeld pages parts s
 
--- the machine of parts that C described is in a first state, in which the normal world runs on all processors and has been told of
--- nothing, over RAM that is lent or not
+-- the machine of parts that C described is in a first state, in which the normal world runs on all processors, over RAM that is
+-- lent or not
 pub record IsBooted (describes : Parts → Type 0) (begins : Parts → Snapshot → Type 0)
     (is_lent : Bool) (b : Boarded) : Type 0 where
   pub parts : Parts
   pub described : describes parts
   pub begun : begins parts b.machine
   pub processors : b.processors ≡ first_processors
-  pub notices : b.notices ≡ finite_set.empty
   pub kind : b.is_lent ≡ is_lent
 
 -- the same of what C holds

@@ -3,6 +3,7 @@
 use Rattle.std.specs.Prelude.{◌≡◌, ℕ, ◌+◌, Bool, true, false, replicate, Option, None, Some, ◌==◌, nat_lt, length, if◌then◌else◌}
 use Rattle.ffa_model.specs.Agreement.{Agrees, root}
 use Rattle.ffa_model.specs.Identifiers.{place}
+use Rattle.ffa_model.specs.Notices.{has_notices}
 use Rattle.ffa_model.specs.Notifications.{has_pending, notifications_of}
 use Rattle.ffa_model.specs.SoundState.{IsSoundState}
 use Rattle.ffa_model.specs.State.{State, is_known, owner_of}
@@ -18,9 +19,6 @@ use Rattle.ffa_model.specs.declared.operation.Size.TheVariants.{B1, B2, B4, B8}
 use Rattle.ffa_model.specs.declared.rights.Rights.{Rights}
 use Rattle.ffa_model.specs.declared.rights.Data as rights
 use Rattle.ffa_model.specs.declared.rights.Data.TheVariants.{Ro, Rw}
-use Rattle.ffa_notify.specs.Noticed.{in_one_context, notice_asked, noticed, told_after}
-use Rattle.ffa_notify.specs.Notices.{Told, is_due}
-use Rattle.ffa_notify.specs.declared.notices.Notice.{Notice}
 use Rattle.ffa_spmc.specs.Clustered.{Clustered, IsEffected, IsEffectedAlone}
 use Rattle.ffa_spmc.specs.Snapshot.{Snapshot, memory_in}
 use Rattle.ffa_spmc.specs.Unowned.{KeepsUnowned}
@@ -65,22 +63,14 @@ abbrev pub packed_effect : Effect → COutcome
 packed_effect (effects.Outcome outcome) = packed outcome
 packed_effect (effects.Resumed e) = record (plain_outcome 7 0) { runner = e.0 }
 
--- what whoever runs on the selected processor asks about notices by an operation, if it does
-abbrev pub asked_by : Clustered → Op → Option Notice
-asked_by old op = notice_asked old.machine.state.runner op
-
--- and what the normal world has been told of after it
-abbrev pub notices_after : Told → Clustered → Op → Clustered → Told
-notices_after notices old op new = told_after notices (notifications_of new.machine.state) (asked_by old op)
-
--- An operation of whoever runs on the selected processor was done, in one context, as the machine's own call promises it, and C was
--- told the effect, or the notice. If the RAM is lent, others may write to the runner's TX meanwhile.
-pub record HasDone (is_lent : Bool) (notices : Told) (old new : Clustered) (op : Op) (told : COutcome) : Type 0 where
+-- An operation of whoever runs on the selected processor was done as the machine's own call promises it, and C was told the
+-- effect. If the RAM is lent, others may write to the runner's TX meanwhile.
+pub record HasDone (is_lent : Bool) (old new : Clustered) (op : Op) (told : COutcome) : Type 0 where
   pub effect : Effect
-  pub is_told : told ≡ packed_effect (noticed notices (notifications_of new.machine.state) (asked_by old op) effect)
-  pub done : IsEffected is_lent old.machine (in_one_context op) effect new.machine
+  pub is_told : told ≡ packed_effect effect
+  pub done : IsEffected is_lent old.machine op effect new.machine
   -- As far as contracts see, nobody else wrote at the same time. So the state is exactly the one that the definitions give.
-  pub alone : IsEffectedAlone old.machine.state (in_one_context op) effect new.machine.state
+  pub alone : IsEffectedAlone old.machine.state op effect new.machine.state
   pub processors : new.processors ≡ old.processors
   -- no page is in a copy any more, so memory is RAM, and each page lies where it lay
   pub memory : memory_in new.machine ≡ new.machine.ram
@@ -93,8 +83,7 @@ pub record HasDone (is_lent : Bool) (notices : Told) (old new : Clustered) (op :
 abbrev pub Operated : Option Boarded → Option Boarded → Op → COutcome → Type 0
 Operated None new op told = (new ≡ None) × (told ≡ nothing_done 4)
 Operated (Some old) new op told =
-    (c : Clustered) × (new ≡ Some (boarded_by c old.is_lent (notices_after old.notices (cluster_of old) op c)))
-    × HasDone old.is_lent old.notices (cluster_of old) c op told
+    (c : Clustered) × (new ≡ Some (boarded_by c old.is_lent)) × HasDone old.is_lent (cluster_of old) c op told
 
 -- the size of so many bytes
 abbrev pub size_at : ℕ → Option Size
@@ -136,7 +125,7 @@ abbrev pub is_pending_for : ℕ → Option Boarded → Bool
 is_pending_for endpoint None = false
 is_pending_for endpoint (Some b) = has_pending (notifications_of b.machine.state) endpoint
 
--- whether there is a machine of which the normal world is to be told that an endpoint has notifications pending
+-- whether there is a machine that would tell the normal world of an endpoint with notifications pending
 abbrev pub is_due_in : Option Boarded → Bool
 is_due_in None = false
-is_due_in (Some b) = is_due b.notices (notifications_of b.machine.state)
+is_due_in (Some b) = has_notices b.machine.state

@@ -3,14 +3,13 @@
 use Rattle.std.specs.Prelude.{◌≡◌, ℕ, ◌==◌, Bool, List, length, Option, None, Some, if◌then◌else◌}
 use Rattle.ffa_c.specs.Boarded.{Boarded}
 
--- the same machine over RAM that is lent or not: its state, every byte of its RAM, what it has to tell of access that changed, who
--- runs on each processor, and what the normal world has been told of
+-- the same machine over RAM that is lent or not: its state, every byte of its RAM, what it has to tell of access that changed, and
+-- who runs on each processor
 pub record IsCopy (is_lent : Bool) (original copy : Boarded) : Type 0 where
   pub state : copy.machine.state ≡ original.machine.state
   pub ram : copy.machine.ram ≡ original.machine.ram
   pub told : copy.machine.told ≡ original.machine.told
   pub processors : copy.processors ≡ original.processors
-  pub notices : copy.notices ≡ original.notices
   pub kind : copy.is_lent ≡ is_lent
 
 -- the same of what C holds

@@ -17,7 +17,7 @@ selected p c = record { machine = seen_by p c; processors = turned c.processors 
 -- of what C holds, if there is such a processor
 abbrev pub with_selected : ℕ → Boarded → Boarded
 with_selected p b =
-    if nat_lt p MOST_PROCESSORS then boarded_by (selected p (cluster_of b)) b.is_lent b.notices else b
+    if nat_lt p MOST_PROCESSORS then boarded_by (selected p (cluster_of b)) b.is_lent else b
 
 -- where there is a machine
 abbrev pub Selected : Option Boarded → Option Boarded → ℕ → Bool → Type 0
@@ -37,4 +37,4 @@ pub record HasInterrupted (old new : Clustered) (told : COutcome) : Type 0 where
 abbrev pub Interrupted : Option Boarded → Option Boarded → COutcome → Type 0
 Interrupted None new told = (new ≡ None) × (told ≡ nothing_done 4)
 Interrupted (Some old) new told =
-    (c : Clustered) × (new ≡ Some (boarded_by c old.is_lent old.notices)) × HasInterrupted (cluster_of old) c told
+    (c : Clustered) × (new ≡ Some (boarded_by c old.is_lent)) × HasInterrupted (cluster_of old) c told

@@ -33,7 +33,6 @@ use Rattle.ffa_model.specs.declared.why.Obstacle.{Obstacle}
 use Rattle.ffa_model.specs.declared.why.Obstacle.TheVariants.{OutsideRam, ManagersPage, OwnedBy, InTransaction}
 use Rattle.ffa_model.specs.declared.why.Why.{Why}
 use Rattle.ffa_model.specs.declared.why.Why.TheVariants.{Refused, Fault}
-use Rattle.ffa_notify.specs.Noticed.{in_one_context, notice_asked}
 use Rattle.ffa_playable.specs.Bench.{is_refused as does_refuse}
 use Rattle.ffa_playable.specs.declared.detail.Detail.{Detail}
 use Rattle.ffa_playable.specs.declared.detail.Detail.TheVariants.{Standing, Allowed, Mend}
@@ -48,16 +47,12 @@ use Rattle.ffa_c.specs.declared.reason.CReason.{CReason}
 abbrev pub sized : ℕ → (Size → Op) → Option Op
 sized bytes op = option_map op (size_at bytes)
 
--- whether a machine would refuse an operation to its runner, and why: not where that asks for a notice, or lets a preempted
--- partition go on
+-- whether a machine would refuse an operation to its runner, and why: not where that lets a preempted partition go on
 abbrev pub refuses : State → Op → Bool
-refuses s op = not (is_some (notice_asked s.runner op)) && does_refuse (step_resuming s (in_one_context op)).effect
+refuses s op = does_refuse (step_resuming s op).effect
 
 abbrev pub why_here : State → Op → Option Why
-why_here s op =
-    if is_some (notice_asked s.runner op) then None
-    else if is_some (resumed_by s (in_one_context op)) then None
-    else why s (in_one_context op)
+why_here s op = if is_some (resumed_by s op) then None else why s op
 
 -- whether there are a machine and an operation, which that would refuse
 abbrev pub is_refused : Option Boarded → Option Op → Bool
@@ -183,10 +178,10 @@ detail_told None r = r
 abbrev pub reason_told : Why → Option Detail → CReason
 reason_told why its = detail_told its (refused_told why)
 
--- in the state of the machine, if there is one, where the normal world has as many execution contexts as there may be processors
+-- in the state of the machine, if there is one
 abbrev pub detail_held : Option Boarded → Option Op → Why → Option Detail
 detail_held held None why = None
-detail_held held (Some op) why = option_and_then (λ (b : Boarded). detail MOST_PROCESSORS b.machine.state (in_one_context op) why) held
+detail_held held (Some op) why = option_and_then (λ (b : Boarded). detail b.machine.state op why) held
 
 abbrev pub reason_held : Option Boarded → Option Op → Why → CReason
 reason_held held op why = reason_told why (detail_held held op why)

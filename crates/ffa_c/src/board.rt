@@ -1,12 +1,12 @@
 // SPDX-License-Identifier: MIT OR Apache-2.0
 //! A machine with the outcomes that C sees, whichever RAM it has.
 ghost use Rattle.std.specs.Prelude.{◌≡◌, ◌<◌, ◌≤◌, ◌*◌, ◌↔◌, IfSome, IsTrue, true, false, length, is_some};
-ghost use Rattle.std.specs.FinSet as finite_set;
 ghost use Rattle.std.specs.Option.{option_map};
 ghost use Rattle.ffa_model.specs.declared.limits.TheConstants.{MOST_PROCESSORS};
 ghost use Rattle.ffa_model.specs.Access.{access};
 ghost use Rattle.ffa_model.specs.Agreement.{Agrees, blocks_of, roots_of};
 ghost use Rattle.ffa_model.specs.Certified.{IsCertified};
+ghost use Rattle.ffa_model.specs.Notices.{has_notices};
 ghost use Rattle.ffa_model.specs.Notifications.{has_pending, notifications_of};
 ghost use Rattle.ffa_model.specs.Processors.{first_processors};
 ghost use Rattle.ffa_model.specs.Ram.{page_of, zero_ram};
@@ -15,26 +15,22 @@ ghost use Rattle.ffa_manifest.specs.Document.{parts_of};
 ghost use Rattle.ffa_physmem.specs.Moments.{HasNoCopies};
 ghost use Rattle.ffa_spmc.specs.Booted.{IsBootedBy};
 ghost use Rattle.ffa_spmc.specs.Storages.{IsRoomFor};
-ghost use Rattle.ffa_notify.specs.Noticed.{in_one_context};
-ghost use Rattle.ffa_notify.specs.Notices.{is_due};
 ghost use Rattle.ffa_playable.specs.Standing.{detail};
 ghost use Rattle.ffa_c.specs.Boarded.{cluster_of};
 ghost use Rattle.ffa_c.specs.Booting.{IsFirst, IsFirstBy};
-ghost use Rattle.ffa_c.specs.Border.{HasDone, access_code, notices_after, owner_number, root_number};
+ghost use Rattle.ffa_c.specs.Border.{HasDone, access_code, owner_number, root_number};
 ghost use Rattle.ffa_c.specs.Changes.{with_all_told};
 ghost use Rattle.ffa_c.specs.Processors.{HasInterrupted, selected};
 ghost use Rattle.ffa_c.specs.Runs.{run_at};
 ghost use Rattle.ffa_c.specs.Why.{refuses, why_here};
 
-use crate::kind::{BoardMachine, audited_by, code_of, do_noticing, owner_by, root_by, run_by};
+use crate::kind::{BoardMachine, audited_by, code_of, operate, owner_by, root_by, run_by};
 use crate::outcome::COutcome;
 use ffa_lent::{Frames, LentRam};
 use ffa_memshare::Changed;
 use ffa_model::{
-    CertRun, Effect, EndpointId, Grant, MOST_ENDPOINTS, MOST_PROCESSORS, Manifest, Op, Outcome,
-    PageNo,
+    CertRun, EndpointId, Grant, MOST_ENDPOINTS, MOST_PROCESSORS, Manifest, Op, PageNo,
 };
-use ffa_notify::{Told, in_one_context, is_about_notices, notice_asked};
 use ffa_physmem::{FlatRam, PhysMem};
 use ffa_playable::Explanation;
 use ffa_spmc::{Cluster, Fill, Given, Machine, Storage, Store};
@@ -78,8 +74,6 @@ pub enum FirstBytes {
 #[derive(Drop)]
 pub struct Board {
     kind: BoardMachine,
-    // What the normal world has been told of notifications.
-    notices: Told,
 }
 
 impl Model for Board {
@@ -89,7 +83,7 @@ impl Model for Board {
 
     ghost coded = { coded_boarded };
 
-    ghost view = { λ b. boarded b.kind b.notices };
+    ghost view = { λ b. boarded b.kind };
 }
 
 // The machine of a manifest in its first state, in RAM of any kind and with no cache.
@@ -120,13 +114,11 @@ impl Board {
             ⟦<FlatRam as PhysMem>⟧.ram ram ≡ zero_ram manifest.now.ram_base.0 pages }
         ensures first { IsFirst (parts_of manifest.now) result.machine }
         ensures processors { result.processors ≡ first_processors }
-        ensures notices { result.notices ≡ finite_set.empty }
         ensures kind { result.is_lent ≡ false }
     {
         let cluster = boot_cluster(storage, manifest, ram, Fill::AlreadyZero);
         Board {
             kind: BoardMachine::Heap(cluster),
-            notices: Told::nothing(),
         }
     }
 
@@ -145,7 +137,6 @@ impl Board {
         ensures site { result.machine.past.site ≡ (⟦<LentRam as PhysMem>⟧.past ram).site }
         ensures first { IsFirstBy bytes (⟦<LentRam as PhysMem>⟧.ram ram).pages (parts_of manifest.now) result.machine }
         ensures processors { result.processors ≡ first_processors }
-        ensures notices { result.notices ≡ finite_set.empty }
         ensures kind { result.is_lent ≡ true }
     {
         let cluster = match bytes {
@@ -154,7 +145,6 @@ impl Board {
         };
         Board {
             kind: BoardMachine::Lent(cluster),
-            notices: Told::nothing(),
         }
     }
 
@@ -186,34 +176,23 @@ impl Board {
     /// Does one operation of whoever runs on the selected processor, to whose TX others may write at the same time where the RAM is
     /// lent. The outcome is filled in where it stands.
     pub fn op(&mut self, op: &Op, outcome: &mut COutcome)
-        ensures done { HasDone self.old.is_lent self.old.notices (cluster_of self.old) (cluster_of self.new) op.now outcome.new }
-        ensures notices { self.new.notices ≡ notices_after self.old.notices (cluster_of self.old) op.now (cluster_of self.new) }
+        ensures done { HasDone self.old.is_lent (cluster_of self.old) (cluster_of self.new) op.now outcome.new }
         ensures kind { self.new.is_lent ≡ self.old.is_lent }
     {
-        either!(&mut self.kind, cluster => {
-            if is_about_notices(op) {
-                do_noticing(cluster, &mut self.notices, op, outcome)
-            } else {
-                let mut effect = Effect::Outcome(Outcome::Done);
-                cluster.op(op, &mut effect);
-                self.notices.follow(cluster.machine().bitmaps());
-                outcome.tell(&effect);
-            }
-        })
+        either!(&mut self.kind, cluster => operate(cluster, op, outcome))
     }
 
-    /// Whether the normal world is to be told that an endpoint has notifications pending.
-    pub fn is_due(&self) -> bool
-        ensures { result ≡ is_due self.now.notices (notifications_of self.now.machine.state) }
+    /// Whether the normal world would be told of an endpoint by FFA_NOTIFICATION_INFO_GET.
+    pub fn has_notices(&self) -> bool
+        ensures { result ≡ has_notices self.now.machine.state }
     {
-        asked!(&self.kind, machine => self.notices.is_due(machine.bitmaps()))
+        asked!(&self.kind, machine => machine.has_notices())
     }
 
     /// Selects a processor.
     pub fn select(&mut self, processor: usize)
         requires { processor < MOST_PROCESSORS }
         ensures cluster { cluster_of self.new ≡ selected processor (cluster_of self.old) }
-        ensures notices { self.new.notices ≡ self.old.notices }
         ensures kind { self.new.is_lent ≡ self.old.is_lent }
     {
         either!(&mut self.kind, cluster => cluster.select(processor))
@@ -222,7 +201,6 @@ impl Board {
     /// An interrupt that the selected processor takes while it runs whoever it runs.
     pub fn interrupt(&mut self) -> COutcome
         ensures done { HasInterrupted (cluster_of self.old) (cluster_of self.new) result }
-        ensures notices { self.new.notices ≡ self.old.notices }
         ensures kind { self.new.is_lent ≡ self.old.is_lent }
     {
         either!(&mut self.kind, cluster => COutcome::of(&cluster.interrupt()))
@@ -309,18 +287,10 @@ impl Board {
     /// Why an operation of the runner would be refused now, or was refused just before.
     pub fn why(&self, op: &Op) -> Option<Explanation>
         ensures why { option_map (λ its. its.why) result ≡ why_here self.now.machine.state op.now }
-        ensures detail { let one = in_one_context op.now in
-            IfSome result (λ its. its.detail ≡ detail MOST_PROCESSORS self.now.machine.state one its.why) }
+        ensures detail { IfSome result (λ its. its.detail ≡ detail self.now.machine.state op.now its.why) }
         ensures refused { is_some result ≡ refuses self.now.machine.state op.now }
     {
-        let contexts = MOST_PROCESSORS as u32;
-        asked!(&self.kind, machine => {
-            if notice_asked(machine.runner(), op).is_some() {
-                None
-            } else {
-                ffa_reasons::why_resuming(machine, contexts, &in_one_context(op))
-            }
-        })
+        asked!(&self.kind, machine => ffa_reasons::why_resuming(machine, op))
     }
 
     /// Whether an endpoint has a notification pending.

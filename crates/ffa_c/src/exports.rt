@@ -16,8 +16,7 @@ pub struct CRegisters {
 }
 
 /// A call of whoever runs on the selected processor, with eight registers. FFA_RUN of a partition that an interrupt stopped lets that go
-/// on. FFA_NOTIFICATION_INFO_GET and FFA_FEATURES of it are served to the normal world, and bitmaps of notifications may be for as many
-/// contexts as there may be processors.
+/// on.
 #[unsafe(no_mangle)]
 pub extern "C" fn gorseplumb_call(machine: &mut CMachine, registers: &CRegisters) -> COutcome
     ensures { Operated machine.old.held.value machine.new.held.value (Op.Call registers.now.x) result }

@@ -3,14 +3,13 @@
 ghost use Rattle.std.specs.Prelude.{◌≡◌, ◌≤◌, ◌↔◌, IsTrue, length, true};
 ghost use Rattle.ffa_model.specs.Agreement.{Agrees, roots_of};
 ghost use Rattle.ffa_model.specs.Certified.{IsCertified};
-ghost use Rattle.ffa_c.specs.Border.{HasDone, access_code, exec_code, level_code, notices_after, owner_number, root_number};
+ghost use Rattle.ffa_c.specs.Border.{HasDone, access_code, exec_code, level_code, owner_number, root_number};
 ghost use Rattle.ffa_c.specs.Runs.{run_at};
 
 use crate::codes::{EXECUTE, NOTHING, READ, WRITE};
 use crate::outcome::COutcome;
 use ffa_lent::LentRam;
 use ffa_model::{CertRun, Data, Effect, EndpointId, MOST_ENDPOINTS, Op, Outcome, PageNo, Rights};
-use ffa_notify::{Told, in_one_context, notice_asked};
 use ffa_physmem::{FlatRam, Observed, PhysMem};
 use ffa_spmc::{Cluster, Given, Machine, Store};
 use ffa_tlb::NoTlb;
@@ -25,23 +24,18 @@ pub enum BoardMachine {
     Lent(Cluster<LentRam, NoTlb, Given<Global>>),
 }
 
-/// An operation of whoever runs on the selected processor that may ask about notices, or name contexts, with what C is told of it.
-// It is apart, so that no other operation is looked at for its notice.
-#[inline(never)]
-pub(crate) fn do_noticing<M: Observed + Drop, S: Store>(
+/// Does an operation of whoever runs on the selected processor, and tells C what came of it.
+#[inline(always)]
+pub(crate) fn operate<M: Observed + Drop, S: Store>(
     cluster: &mut Cluster<M, NoTlb, S>,
-    notices: &mut Told,
     op: &Op,
     outcome: &mut COutcome,
 )
     requires { M.is_alone ≡ true }
-    ensures done { HasDone M.is_shared notices.old cluster.old cluster.new op.now outcome.new }
-    ensures notices { notices.new ≡ notices_after notices.old cluster.old op.now cluster.new }
+    ensures { HasDone M.is_shared cluster.old cluster.new op.now outcome.new }
 {
-    let asked = notice_asked(cluster.machine().runner(), op);
     let mut effect = Effect::Outcome(Outcome::Done);
-    cluster.op(&in_one_context(op), &mut effect);
-    notices.answer(asked, cluster.machine().bitmaps(), &mut effect);
+    cluster.op(op, &mut effect);
     outcome.tell(&effect);
 }
 

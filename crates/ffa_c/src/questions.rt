@@ -120,15 +120,15 @@ pub extern "C" fn gorseplumb_npi_pending(machine: &mut CMachine, endpoint: u16) 
     }
 }
 
-/// Whether the normal world is to be told that an endpoint has notifications pending: whether its interrupt that schedules
-/// receivers is to be pending.
+/// Whether the normal world would be told by FFA_NOTIFICATION_INFO_GET that an endpoint has notifications pending: whether its
+/// interrupt that schedules receivers is to be pending. On a machine of FF-A 1.1, which tells nobody, it is not.
 #[unsafe(no_mangle)]
 pub extern "C" fn gorseplumb_sri_pending(machine: &mut CMachine) -> bool
     ensures same { machine.new.held.value ≡ machine.old.held.value }
     ensures value { result ≡ is_due_in machine.old.held.value }
 {
     if machine.live {
-        machine.held.board().is_due()
+        machine.held.board().has_notices()
     } else {
         false
     }

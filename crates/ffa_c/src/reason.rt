@@ -257,6 +257,7 @@ fn error_code(code: ErrorCode) -> i32
         ErrorCode::NoMemory => -3,
         ErrorCode::Busy => -4,
         ErrorCode::Denied => -6,
+        ErrorCode::NoData => -9,
     }
 }
 

@@ -9,9 +9,6 @@ use Rattle.ffa_mend.specs.Allowed.{allowed_check, receivers_of}
 use Rattle.ffa_mend.specs.Mend.{address_of, call_of, mend_check, mend_fault}
 use Rattle.ffa_model.specs.declared.call.Call.{Call}
 use Rattle.ffa_model.specs.declared.endpoint.EndpointId.{EndpointId}
-use Rattle.ffa_model.specs.declared.limits.TheConstants.{MOST_PROCESSORS}
-use Rattle.ffa_model.specs.declared.manifest.Ffa.{Ffa}
-use Rattle.ffa_model.specs.declared.manifest.Ffa.TheVariants.{V1_1, V1_2}
 use Rattle.ffa_model.specs.declared.operation.Op.{Op}
 use Rattle.ffa_model.specs.declared.refusal.Refusal.{Refusal}
 use Rattle.ffa_model.specs.declared.refusal.Refusal.TheVariants.{ReceiverNotWaiting, TargetNotReady}
@@ -24,7 +21,6 @@ use Rattle.ffa_model.specs.Lists.{listed}
 use Rattle.ffa_model.specs.Numbers.{Identifier}
 use Rattle.ffa_model.specs.RunStates.{Schedule, is_endpoint, requester, schedule_of, status_in, work_in}
 use Rattle.ffa_model.specs.State.{State, version_of}
-use Rattle.ffa_playable.specs.Bench.{Bench, as_done, contexts_of}
 use Rattle.ffa_playable.specs.declared.detail.Detail.{Detail}
 use Rattle.ffa_playable.specs.declared.detail.Detail.TheVariants as details
 use Rattle.ffa_playable.specs.declared.detail.Standing.{Standing}
@@ -60,22 +56,13 @@ detail_by (Some its) mend values = Some (details.Standing its)
 detail_by None (Some mend) values = Some (details.Mend mend)
 detail_by None None values = option_map details.Allowed values
 
--- how many execution contexts the normal world may name, where a machine of FF-A 1.1 would take so many
-abbrev pub contexts_in : Ffa → ℕ → ℕ
-contexts_in V1_1 contexts = contexts
-contexts_in V1_2 contexts = MOST_PROCESSORS
-
 -- of a check of a call
-abbrev pub check_detail : ℕ → State → Call → Refusal → Option About → Option Detail
-check_detail contexts s call refusal about =
+abbrev pub check_detail : State → Call → Refusal → Option About → Option Detail
+check_detail s call refusal about =
     detail_by (standing_of_check s refusal about) (mend_check s call refusal about)
-    (allowed_check (contexts_in s.ffa contexts) s.ffa (version_of s s.runner) (receivers_of s call) call refusal about)
+    (allowed_check s.ffa (version_of s s.runner) (receivers_of s call) call refusal about)
 
 -- of what an operation is refused for
-abbrev pub detail : ℕ → State → Op → Why → Option Detail
-detail contexts s op (Refused refusal about) = check_detail contexts s (call_of op) refusal about
-detail contexts s op (Fault kind obstacle) = detail_by None (mend_fault s (address_of op) kind) None
-
--- on a bench
-abbrev pub detail_of : Bench → Op → Why → Option Detail
-detail_of b op why = detail (contexts_of b) b.state (as_done b op) why
+abbrev pub detail : State → Op → Why → Option Detail
+detail s op (Refused refusal about) = check_detail s (call_of op) refusal about
+detail s op (Fault kind obstacle) = detail_by None (mend_fault s (address_of op) kind) None

@@ -15,7 +15,7 @@ ghost use Rattle.ffa_model.specs.Why.{outcome_of};
 ghost use Rattle.ffa_mend.specs.Offered.{offered};
 ghost use Rattle.ffa_playable.specs.Audited.{GiveAccess};
 ghost use Rattle.ffa_playable.specs.Bench.{Bench, after_interrupt, after_op, effect_of, outcome_of_interrupt, processors_of, refuses, turned_to, why_of};
-ghost use Rattle.ffa_playable.specs.Standing.{detail_of};
+ghost use Rattle.ffa_playable.specs.Standing.{detail};
 
 mod detail;
 
@@ -29,7 +29,7 @@ pub trait Playable: Drop {
     ghost bench: { Self → Bench };
 
     /// Does one operation of the runner, and writes what comes of it to `effect`. A refusal, which is FFA_ERROR or a fault,
-    /// changes nothing. Where several processors run the machine the normal world is told of notifications too.
+    /// changes nothing.
     fn op(&mut self, op: &Op, effect: &mut Effect)
         ensures effect { effect.new ≡ effect_of (bench self.old) op.now }
         ensures bench { bench self.new ≡ after_op (bench self.old) op.now };
@@ -49,12 +49,11 @@ pub trait Playable: Drop {
         ensures outcome { result ≡ outcome_of_interrupt (bench self.old) }
         ensures bench { bench self.new ≡ after_interrupt (bench self.old) };
 
-    /// Why an operation of the runner is refused; nothing where it isn't, as where there is no notice. With it what is to be
-    /// mended, or how that stands which the check is about, or which values may be there, as far as the machine knows it. It
-    /// changes nothing.
+    /// Why an operation of the runner is refused; nothing where it isn't. With it what is to be mended, or how that stands
+    /// which the check is about, or which values may be there, as far as the machine knows it. It changes nothing.
     fn why(&self, op: &Op) -> Option<Explanation>
         ensures why { option_map (λ its. its.why) result ≡ why_of (bench self.now) op.now }
-        ensures detail { IfSome result (λ its. its.detail ≡ detail_of (bench self.now) op.now its.why) }
+        ensures detail { IfSome result (λ its. its.detail ≡ detail (bench self.now).state op.now its.why) }
         ensures refused { is_some result ≡ refuses (bench self.now) op.now }
         ensures outcome { IfSome result (λ its.
             effect_of (bench self.now) op.now ≡ Effect.Outcome (outcome_of (bench self.now).state its.why)) };

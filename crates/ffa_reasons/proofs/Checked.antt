@@ -1,6 +1,6 @@
 -- SPDX-License-Identifier: MIT OR Apache-2.0
 -- Why an operation is refused: the checks see of the machine's parts what the guards of each call see of its state.
-use Rattle.std.proofs.Common.{◌≡◌, ◌∙◌, ℕ, List, length, map, Option, ap}
+use Rattle.std.proofs.Common.{◌≡◌, ◌∙◌, ℕ, Bool, List, length, map, Option, ap}
 use Rattle.std.specs.Prelude.{◌||◌, is_some}
 use Rattle.std.specs.FinMap as finite
 use Rattle.ffa_memshare.specs.Stored.{map_in}
@@ -14,7 +14,8 @@ use Rattle.ffa_model.specs.Manifest.{is_nil}
 use Rattle.ffa_model.specs.MemoryReturn.{memory_reclaim, reclaim_guards}
 use Rattle.ffa_model.specs.Messages.{header_in, msg_send2, send2_guards}
 use Rattle.ffa_model.specs.Notifications.{bind_guards, bitmap_create, bitmap_destroy, create_guards, destroy_guards, get_guards, notification_bind, notification_get, notification_set, notification_unbind, set_guards, unbind_guards}
-use Rattle.ffa_model.specs.Setup.{info_guards, is_any, is_count_alone, needs_buffers, selected}
+use Rattle.ffa_model.specs.Notices.{notice_guards, notification_info_get}
+use Rattle.ffa_model.specs.Setup.{features, features_guards, info_guards, is_any, is_count_alone, needs_buffers, selected}
 use Rattle.ffa_model.specs.declared.endpoint.Version.{Version}
 use Rattle.ffa_model.specs.State.{State, transaction_of, version_of}
 use Rattle.ffa_rxtx.specs.Parts.{ownership_in}
@@ -76,6 +77,14 @@ module _ (x : Parts) (machine : IsManager x) (e : ℕ) (at : e ≡ x.kept.chain.
   pub get-checked : (receiver context flags : ℕ) → first_refusal (get_guards x.manifest.ffa x.kept.bitmaps e receiver context flags) ≡ first_refusal (notification_get s receiver context flags).guards
   unfolding first
   get-checked receiver context flags = ap (λ (f : ℕ). first_refusal (get_guards x.manifest.ffa x.kept.bitmaps f receiver context flags)) at
+
+  pub features-checked : (function : ℕ) → first_refusal (features_guards x.manifest.ffa e function) ≡ first_refusal (features s function).guards
+  unfolding first
+  features-checked function = ap (λ (f : ℕ). first_refusal (features_guards x.manifest.ffa f function)) at
+
+  pub notice-checked : (is_wide : Bool) → first_refusal (notice_guards x.manifest.ffa (length x.kept.bitmaps.bitmaps) x.kept.bitmaps e) ≡ first_refusal (notification_info_get s is_wide).guards
+  unfolding first
+  notice-checked is_wide = λ i. first_refusal (notice_guards x.manifest.ffa (each-bitmap x machine i) x.kept.bitmaps (at i))
 
   -- a call with a bitmap
   module _ (its : NotificationBits) where

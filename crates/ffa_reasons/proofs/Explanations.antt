@@ -38,15 +38,15 @@ pub of-reason : (Holds : Why → Type 0) (o : Option Explanation) → IfSome (op
 of-reason Holds None is = is
 of-reason Holds (Some its) is = is
 
-module _ (contexts : ℕ) (s : State) where
-  pub reason-explained : (op : Op) → option_map (λ (its : Explanation). its.why) (explanation contexts s op) ≡ why s op
+module _ (s : State) where
+  pub reason-explained : (op : Op) → option_map (λ (its : Explanation). its.why) (explanation s op) ≡ why s op
   reason-explained (Call x) = reasons _ (first_refusal (service s (decode x)).guards)
   reason-explained (Load address size) = reasons _ (read_fault s address (size_of size))
   reason-explained (Store address size value) = reasons _ (store_fault s address (size_of size))
   reason-explained (Fetch address) = reasons _ (fetch_fault s address)
 
-  pub detail-explained : (op : Op) → IfSome (explanation contexts s op) (λ (its : Explanation). its.detail ≡ detail contexts s op its.why)
-  detail-explained (Call x) = details _ (detail contexts s (Call x)) (λ r. refl) (first_refusal (service s (decode x)).guards)
-  detail-explained (Load address size) = details _ (detail contexts s (Load address size)) (λ kind. refl) (read_fault s address (size_of size))
-  detail-explained (Store address size value) = details _ (detail contexts s (Store address size value)) (λ kind. refl) (store_fault s address (size_of size))
-  detail-explained (Fetch address) = details _ (detail contexts s (Fetch address)) (λ kind. refl) (fetch_fault s address)
+  pub detail-explained : (op : Op) → IfSome (explanation s op) (λ (its : Explanation). its.detail ≡ detail s op its.why)
+  detail-explained (Call x) = details _ (detail s (Call x)) (λ r. refl) (first_refusal (service s (decode x)).guards)
+  detail-explained (Load address size) = details _ (detail s (Load address size)) (λ kind. refl) (read_fault s address (size_of size))
+  detail-explained (Store address size value) = details _ (detail s (Store address size value)) (λ kind. refl) (store_fault s address (size_of size))
+  detail-explained (Fetch address) = details _ (detail s (Fetch address)) (λ kind. refl) (fetch_fault s address)

@@ -36,11 +36,11 @@ call_told s call refusal = record {
 abbrev pub with_told : State → Call → Option Refusal → Option (Refusal × Explained)
 with_told s call refusal = option_map (λ refusal. (refusal, call_told s call refusal)) refusal
 
--- a check of a call, where the normal world has so many execution contexts
-abbrev pub check_explanation : ℕ → State → ℕ → Call → Refusal → Explanation
-check_explanation contexts s w0 call refusal = record {
+-- a check of a call
+abbrev pub check_explanation : State → ℕ → Call → Refusal → Explanation
+check_explanation s w0 call refusal = record {
   why = Refused refusal (about s w0 call refusal);
-  detail = check_detail contexts s call refusal (about s w0 call refusal);
+  detail = check_detail s call refusal (about s w0 call refusal);
 }
 
 -- a fault at an address
@@ -54,9 +54,9 @@ abbrev pub fault_explanation : State → ℕ → Option FaultKind → Option Exp
 fault_explanation s address fault = option_map (explained_fault s address) fault
 
 -- an operation of the runner
-abbrev pub explanation : ℕ → State → Op → Option Explanation
-explanation contexts s (ops.Call x) =
-    option_map (check_explanation contexts s (low (slice_index x 0)) (decode x)) (first_refusal (service s (decode x)).guards)
-explanation contexts s (ops.Load address size) = fault_explanation s address (read_fault s address (size_of size))
-explanation contexts s (ops.Store address size value) = fault_explanation s address (store_fault s address (size_of size))
-explanation contexts s (ops.Fetch address) = fault_explanation s address (fetch_fault s address)
+abbrev pub explanation : State → Op → Option Explanation
+explanation s (ops.Call x) =
+    option_map (check_explanation s (low (slice_index x 0)) (decode x)) (first_refusal (service s (decode x)).guards)
+explanation s (ops.Load address size) = fault_explanation s address (read_fault s address (size_of size))
+explanation s (ops.Store address size value) = fault_explanation s address (store_fault s address (size_of size))
+explanation s (ops.Fetch address) = fault_explanation s address (fetch_fault s address)

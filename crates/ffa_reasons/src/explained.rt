@@ -38,7 +38,7 @@ impl<M: PhysMem + Drop, T: Translations + Drop, S: Store> Playable for Explained
     }
 
     fn why(&self, op: &Op) -> Option<Explanation> {
-        crate::why(&self.0, 1, op)
+        crate::why(&self.0, op)
     }
 
     fn runner(&self) -> EndpointId {

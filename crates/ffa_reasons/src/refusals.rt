@@ -1,6 +1,6 @@
 // SPDX-License-Identifier: MIT OR Apache-2.0
 //! The first check of a call of the runner that fails: each call is asked by the check that it makes itself.
-ghost use Rattle.std.specs.Prelude.{◌≡◌, ◌∷◌, [], ◌||◌, None, not};
+ghost use Rattle.std.specs.Prelude.{◌≡◌, ◌∷◌, [], ◌||◌, Bool, None, not};
 ghost use Rattle.std.specs.Option.{option_map};
 ghost use Rattle.ffa_mend.specs.Explained.{explained};
 ghost use Rattle.ffa_model.specs.Buffers.{rx_release, rxtx_map, rxtx_unmap};
@@ -9,7 +9,8 @@ ghost use Rattle.ffa_model.specs.MemoryReturn.{memory_reclaim};
 ghost use Rattle.ffa_model.specs.Messages.{msg_send2};
 ghost use Rattle.ffa_model.specs.Notifications.{bitmap_create, bitmap_destroy, notification_bind, notification_get, notification_set, notification_unbind};
 ghost use Rattle.ffa_model.specs.RunStates.{direct_request, direct_response, run_partition, schedule_of, wait_guards, yield_now};
-ghost use Rattle.ffa_model.specs.Setup.{info_guards, is_count_alone, needs_buffers, uuid_bytes};
+ghost use Rattle.ffa_model.specs.Notices.{notification_info_get};
+ghost use Rattle.ffa_model.specs.Setup.{features, info_guards, is_count_alone, needs_buffers, uuid_bytes};
 ghost use Rattle.ffa_model.specs.Step.{service};
 ghost use Rattle.ffa_reasons.specs.Explanation.{with_told};
 
@@ -28,7 +29,7 @@ impl<M: PhysMem + Drop, T: Translations + Drop, S: Store> Reasons<'_, M, T, S> {
     {
         match call {
             Call::Version { version: _ } => None,
-            Call::Features { function } => bare(ffa_setup::check_features(function).err()),
+            Call::Features { function } => bare(self.features_refusal(function)),
             Call::RxRelease => bare(self.rx_release_refusal()),
             Call::RxtxMap { tx, rx, pages } => self.why_map(tx, rx, pages),
             Call::RxtxUnmap { endpoint } => bare(self.rxtx_unmap_refusal(endpoint)),
@@ -59,8 +60,18 @@ impl<M: PhysMem + Drop, T: Translations + Drop, S: Store> Reasons<'_, M, T, S> {
                 context,
                 flags,
             } => bare(self.notification_get_refusal(receiver, context, flags)),
+            Call::NotificationInfoGet { is_wide: _ } => bare(self.notice_refusal()),
             Call::Unknown => bare(Some(Refusal::FunctionUnknown)),
         }
+    }
+
+    // Of FFA_FEATURES.
+    fn features_refusal(&self, function: u32) -> Option<Refusal>
+        ensures { result ≡ first_refusal (features self.now function).guards }
+    {
+        let ffa = self.parts.manifest.ffa;
+        let runner = self.parts.chain.runner();
+        ffa_setup::check_features(function, ffa, runner).err()
     }
 
     // Of FFA_RX_RELEASE.
@@ -223,6 +234,15 @@ impl<M: PhysMem + Drop, T: Translations + Drop, S: Store> Reasons<'_, M, T, S> {
         bitmaps
             .check_get(ffa, runner, receiver, context, flags)
             .err()
+    }
+
+    // Of FFA_NOTIFICATION_INFO_GET, in either form.
+    fn notice_refusal(&self) -> Option<Refusal>
+        ensures { (is_wide : Bool) → result ≡ first_refusal (notification_info_get self.now is_wide).guards }
+    {
+        let ffa = self.parts.manifest.ffa;
+        let runner = self.parts.chain.runner();
+        self.parts.bitmaps.check_info(ffa, runner).err()
     }
 }
 

@@ -1,6 +1,7 @@
 // SPDX-License-Identifier: MIT OR Apache-2.0
 //! What a check that fails is about, where the call's registers tell it (DEN0077A, 11 to 16).
-ghost use Rattle.std.specs.Prelude.{◌≡◌};
+ghost use Rattle.std.specs.Prelude.{◌≡◌, Bool};
+ghost use Rattle.ffa_model.specs.declared.call.Call.{Call};
 ghost use Rattle.ffa_model.specs.AboutRegisters.{about_registers, in_register, registers_of_bind, registers_of_create, registers_of_destroy, registers_of_get, registers_of_map, registers_of_reclaim, registers_of_request, registers_of_response, registers_of_run, registers_of_set, registers_of_transfer, registers_of_unmap};
 ghost use Rattle.ffa_model.specs.Bits.{word_of_two};
 
@@ -35,6 +36,7 @@ pub(crate) fn about_registers(number: u32, call: &Call, refusal: Refusal) -> Opt
             context,
             flags,
         } => of_get(receiver, context, flags, refusal),
+        Call::NotificationInfoGet { .. } => of_info(number, refusal),
         Call::Unknown => register(0, u64::from(number)),
         _ => None,
     }
@@ -189,6 +191,16 @@ fn of_get(receiver: EndpointId, context: u16, flags: u32, refusal: Refusal) -> O
         Refusal::ReceiverIsAnother => Some(About::Endpoint(receiver)),
         Refusal::ContextUnknown => register(1, u64::from(word_of_two(context, receiver.0))),
         Refusal::ClassesUnknown => register(2, u64::from(flags)),
+        _ => None,
+    }
+}
+
+// Of FFA_NOTIFICATION_INFO_GET, whose function's number stands in w0.
+fn of_info(number: u32, refusal: Refusal) -> Option<About>
+    ensures { (is_wide : Bool) → result ≡ about_registers number (Call.NotificationInfoGet is_wide) refusal }
+{
+    match refusal {
+        Refusal::FunctionUnknown => register(0, u64::from(number)),
         _ => None,
     }
 }

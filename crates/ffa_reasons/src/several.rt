@@ -1,27 +1,21 @@
 // SPDX-License-Identifier: MIT OR Apache-2.0
 //! The machine that several processors run, as a player sees it.
 ghost use Rattle.std.specs.Prelude.{◌≡◌, ◌≤◌, Some};
-ghost use Rattle.std.specs.FinSet as finite_set;
 ghost use Rattle.ffa_model.specs.declared.limits.TheConstants.{MOST_PROCESSORS};
 ghost use Rattle.ffa_playable.specs.Bench.{Bench};
 
-use ffa_model::{
-    Address, CertRun, Effect, EndpointId, MOST_PROCESSORS, Op, Outcome, PageNo, Rights,
-};
-use ffa_notify::{Told, in_one_context, notice_asked};
+use ffa_model::{Address, CertRun, Effect, EndpointId, Op, Outcome, PageNo, Rights};
 use ffa_physmem::{PhysMem, Unshared};
 use ffa_playable::{Explanation, Playable, Readable};
 use ffa_spmc::{Cluster, Inline, Store};
 use ffa_tlb::{NoTlb, Translations};
 use std::marker::Model;
 
-/// A machine of several processors that tells why it refuses, with how many of them a trace may name, and what the normal world
-/// has been told of notifications.
+/// A machine of several processors that tells why it refuses, with how many of them a trace may name.
 #[derive(Drop)]
 pub struct ExplainedCluster<M: PhysMem + Drop, T: Translations + Drop = NoTlb, S: Store = Inline> {
     cluster: Cluster<M, T, S>,
     count: usize,
-    told: Told,
 }
 
 impl<M: PhysMem + Drop, T: Translations + Drop, S: Store> Model for ExplainedCluster<M, T, S> {
@@ -34,7 +28,7 @@ impl<M: PhysMem + Drop, T: Translations + Drop, S: Store> Model for ExplainedClu
 
     ghost view = { λ c. record {
       state = c.cluster.machine.state;
-      several = Some (record { count = c.count; processors = c.cluster.processors; told = c.told });
+      several = Some (record { count = c.count; processors = c.cluster.processors });
     } };
 
     ghost use Rattle.std.specs.Prelude.{◌≤◌};
@@ -44,20 +38,15 @@ impl<M: PhysMem + Drop, T: Translations + Drop, S: Store> Model for ExplainedClu
 }
 
 impl<M: PhysMem + Drop, T: Translations + Drop, S: Store> ExplainedCluster<M, T, S> {
-    /// The machine, of which a trace may name so many processors, from 0 on, before the normal world has been told of anything.
-    /// The others stay as they are.
+    /// The machine, of which a trace may name so many processors, from 0 on. The others stay as they are.
     pub fn of(cluster: Cluster<M, T, S>, count: usize) -> ExplainedCluster<M, T, S>
         requires { count ≤ MOST_PROCESSORS }
         ensures { result ≡ record {
           state = cluster.machine.state;
-          several = Some (record { count = count; processors = cluster.processors; told = finite_set.empty });
+          several = Some (record { count = count; processors = cluster.processors });
         } }
     {
-        ExplainedCluster {
-            cluster,
-            count,
-            told: Told::nothing(),
-        }
+        ExplainedCluster { cluster, count }
     }
 }
 
@@ -65,10 +54,7 @@ impl<M: Unshared + Drop, T: Translations + Drop, S: Store> Playable for Explaine
     ghost bench = { λ machine. machine };
 
     fn op(&mut self, op: &Op, effect: &mut Effect) {
-        let asked = notice_asked(self.cluster.machine().runner(), op);
-        self.cluster.op(&in_one_context(op), effect);
-        self.told
-            .answer(asked, self.cluster.machine().bitmaps(), effect);
+        self.cluster.op(op, effect);
     }
 
     fn processors(&self) -> Option<usize> {
@@ -86,13 +72,7 @@ impl<M: Unshared + Drop, T: Translations + Drop, S: Store> Playable for Explaine
     }
 
     fn why(&self, op: &Op) -> Option<Explanation> {
-        let machine = self.cluster.machine();
-        let contexts = MOST_PROCESSORS as u32;
-        if notice_asked(machine.runner(), op).is_some() {
-            None
-        } else {
-            crate::why_resuming(machine, contexts, &in_one_context(op))
-        }
+        crate::why_resuming(self.cluster.machine(), op)
     }
 
     fn runner(&self) -> EndpointId {

@@ -12,7 +12,7 @@ ghost use Rattle.ffa_model.specs.Why.{granted, outcome_of, why};
 ghost use Rattle.ffa_mend.specs.Offered.{offered};
 ghost use Rattle.ffa_playable.specs.Audited.{GiveAccess};
 ghost use Rattle.ffa_playable.specs.Bench.{is_refused};
-ghost use Rattle.ffa_playable.specs.Standing.{contexts_in, detail, detail_by};
+ghost use Rattle.ffa_playable.specs.Standing.{detail, detail_by};
 ghost use Rattle.ffa_reasons.specs.Explanation.{call_told, check_explanation, explanation, fault_explanation};
 
 use crate::reasons::Reasons;
@@ -20,8 +20,7 @@ use crate::registers::about_registers;
 use crate::values::allowed_check;
 use ffa_mend::{Allowed, Explained, Mend};
 use ffa_model::{
-    Call, CertRun, Effect, EndpointId, FaultKind, Ffa, Grant, MOST_PROCESSORS, Op, PageNo, Refusal,
-    Rights, Why,
+    Call, CertRun, Effect, EndpointId, FaultKind, Grant, Op, PageNo, Refusal, Rights, Why,
 };
 use ffa_physmem::PhysMem;
 use ffa_playable::{Detail, Explanation, Standing};
@@ -31,34 +30,31 @@ use ffa_tlb::Translations;
 /// Why an operation of the runner is refused: of a call the first check that fails, with what it is about, where that is a
 /// register, an endpoint or a handle that registers, a message's header or a descriptor name, the first condition that a
 /// descriptor breaks, a bit or a page, and nothing for other checks; and of an access its fault, with what stands in the way.
-/// With it what to change, or the run state of the endpoint, or the values that may be there, where the normal world has this
-/// many execution contexts. `Machine::op` does the operation where this answers nothing. It changes nothing and takes no memory.
+/// With it what to change, or the run state of the endpoint, or the values that may be there. `Machine::op` does the operation where this answers nothing. It changes nothing and takes no memory.
 pub fn why<M: PhysMem + Drop, T: Translations + Drop, S: Store>(
     machine: &Machine<M, T, S>,
-    contexts: u32,
     op: &Op,
 ) -> Option<Explanation>
     ensures why { option_map (λ its. its.why) result ≡ why machine.now.state op.now }
-    ensures detail { IfSome result (λ its. its.detail ≡ detail contexts machine.now.state op.now its.why) }
+    ensures detail { IfSome result (λ its. its.detail ≡ detail machine.now.state op.now its.why) }
     // There is a reason just where the operation is refused, and it says what the runner sees: FFA_ERROR with the code of
     // the check, or the fault.
     ensures refused { is_some result ≡ is_refusal (step machine.now.state op.now).outcome }
     ensures outcome { IfSome result (λ its. (step machine.now.state op.now).outcome
         ≡ outcome_of machine.now.state its.why) }
 {
-    Reasons::of(machine).why(contexts, op)
+    Reasons::of(machine).why(op)
 }
 
 /// The same where partitions may be preempted: FFA_RUN of one that was lets it go on, and isn't refused.
 /// `Cluster::op` does the operation where this answers nothing. It changes nothing and takes no memory.
 pub fn why_resuming<M: PhysMem + Drop, T: Translations + Drop, S: Store>(
     machine: &Machine<M, T, S>,
-    contexts: u32,
     op: &Op,
 ) -> Option<Explanation>
     ensures why { option_map (λ its. its.why) result
         ≡ (if is_some (resumed_by machine.now.state op.now) then None else why machine.now.state op.now) }
-    ensures detail { IfSome result (λ its. its.detail ≡ detail contexts machine.now.state op.now its.why) }
+    ensures detail { IfSome result (λ its. its.detail ≡ detail machine.now.state op.now its.why) }
     ensures refused { is_some result ≡ is_refused (step_resuming machine.now.state op.now).effect }
     ensures outcome { IfSome result (λ its. (step_resuming machine.now.state op.now).effect
         ≡ Effect.Outcome (outcome_of machine.now.state its.why)) }
@@ -66,7 +62,7 @@ pub fn why_resuming<M: PhysMem + Drop, T: Translations + Drop, S: Store>(
     if Reasons::of(machine).lets_go_on(op) {
         None
     } else {
-        why(machine, contexts, op)
+        why(machine, op)
     }
 }
 
@@ -111,11 +107,11 @@ pub(crate) fn audit<M: PhysMem + Drop, T: Translations + Drop, S: Store>(
 
 impl<M: PhysMem + Drop, T: Translations + Drop, S: Store> Reasons<'_, M, T, S> {
     // The reason itself.
-    fn why(&self, contexts: u32, op: &Op) -> Option<Explanation>
-        ensures { result ≡ explanation contexts self.now op.now }
+    fn why(&self, op: &Op) -> Option<Explanation>
+        ensures { result ≡ explanation self.now op.now }
     {
         match *op {
-            Op::Call(x) => self.why_call(contexts, x),
+            Op::Call(x) => self.why_call(x),
             Op::Load { addr, size } => self.why_fault(addr, self.load_fault(addr, size)),
             Op::Store {
                 addr,
@@ -147,37 +143,29 @@ impl<M: PhysMem + Drop, T: Translations + Drop, S: Store> Reasons<'_, M, T, S> {
     }
 
     // Of a call, in its registers.
-    fn why_call(&self, contexts: u32, x: [u64; 8]) -> Option<Explanation>
-        ensures { result ≡ explanation contexts self.now (Op.Call x) }
+    fn why_call(&self, x: [u64; 8]) -> Option<Explanation>
+        ensures { result ≡ explanation self.now (Op.Call x) }
     {
         let call = ffa_abi::decode(x);
         let (refusal, told) = self.refusal(call)?;
-        Some(self.explain(contexts, ffa_abi::low(x[0]), call, refusal, told))
+        Some(self.explain(ffa_abi::low(x[0]), call, refusal, told))
     }
 
     // Of a check of a call that fails, with what the call names. The number is that of the function, in w0.
-    fn explain(
-        &self,
-        contexts: u32,
-        number: u32,
-        call: Call,
-        refusal: Refusal,
-        told: Explained,
-    ) -> Explanation
+    fn explain(&self, number: u32, call: Call, refusal: Refusal, told: Explained) -> Explanation
         requires { told ≡ call_told self.now call refusal }
-        ensures { result ≡ check_explanation contexts self.now number call refusal }
+        ensures { result ≡ check_explanation self.now number call refusal }
     {
         let named = told.about.or(self.about_page(told.page));
         let about = about_registers(number, &call, refusal).or(named);
         let (ffa, version) = (self.ffa(), self.version());
-        let contexts = contexts_in(ffa, contexts);
         let receivers = told.receivers;
         Explanation {
             why: Why::Refused { refusal, about },
             detail: detail_by(
                 self.standing_of_check(refusal, about),
                 told.mend.or(self.mend_about(refusal, about)),
-                allowed_check(contexts, ffa, version, receivers, call, refusal, about),
+                allowed_check(ffa, version, receivers, call, refusal, about),
             ),
         }
     }
@@ -214,15 +202,5 @@ fn detail_by(
     match allowed {
         Some(allowed) => Some(Detail::Allowed(allowed)),
         None => None,
-    }
-}
-
-// How many execution contexts the normal world may name, where a machine of FF-A 1.1 would take so many.
-fn contexts_in(ffa: Ffa, contexts: u32) -> u32
-    ensures { result ≡ contexts_in ffa contexts }
-{
-    match ffa {
-        Ffa::V1_1 => contexts,
-        Ffa::V1_2 => MOST_PROCESSORS as u32,
     }
 }

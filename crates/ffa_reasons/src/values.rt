@@ -3,22 +3,20 @@
 ghost use Rattle.std.specs.Prelude.{◌≡◌, ℕ, ◌+◌, ◌*◌, ◌%◌, ◌≤◌, IfSome, IsSomeAnd};
 ghost use Rattle.ffa_model.specs.DescriptorPlaces.{accesses_size};
 ghost use Rattle.ffa_model.specs.SendDescriptor.{attributes_of, most_flags, most_receivers};
-ghost use Rattle.ffa_mend.specs.Allowed.{IsAmong, IsPlace, allowed_asked, allowed_attributes, allowed_behind, allowed_check, allowed_context, allowed_contexts, allowed_field, allowed_flags, allowed_fragment, allowed_offer, allowed_permissions, allowed_places, allowed_register, between, contexts_of, one, steps};
+ghost use Rattle.ffa_mend.specs.Allowed.{IsAmong, IsPlace, allowed_asked, allowed_attributes, allowed_behind, allowed_check, allowed_context, allowed_contexts, allowed_field, allowed_flags, allowed_fragment, allowed_names, allowed_offer, allowed_permissions, allowed_places, allowed_register, between, contexts_of, one, steps};
 
 use ffa_mend::Allowed;
 use ffa_model::{
     About, AccessFlaw, Call, CompositeFlaw, EndpointId, Ffa, FieldPlace, Flaw, Kind,
-    MOST_BUFFER_PAGES, MOST_RANGES, MOST_RECEIVERS, RangeFlaw, Refusal, RelinquishFlaw,
-    RetrieveFlaw, SendFlaw, Version,
+    MOST_BUFFER_PAGES, MOST_PROCESSORS, MOST_RANGES, MOST_RECEIVERS, RangeFlaw, Refusal,
+    RelinquishFlaw, RetrieveFlaw, SendFlaw, Version,
 };
 
 // The attributes of normal memory, as the manager wants them.
 const NORMAL_MEMORY: u64 = 0x2F;
 
-// Of a check of a call, where the normal world has this many execution contexts, and the header of a descriptor names this many
-// receivers.
+// Of a check of a call, where the header of a descriptor names this many receivers.
 pub(crate) fn allowed_check(
-    contexts: u32,
     ffa: Ffa,
     version: Version,
     receivers: Option<u64>,
@@ -26,17 +24,17 @@ pub(crate) fn allowed_check(
     refusal: Refusal,
     about: Option<About>,
 ) -> Option<Allowed>
-    ensures { result ≡ allowed_check contexts ffa version receivers call refusal about }
+    ensures { result ≡ allowed_check ffa version receivers call refusal about }
 {
     match about {
-        Some(About::Register { .. }) => allowed_register(contexts, call, refusal),
+        Some(About::Register { .. }) => allowed_register(ffa, call, refusal),
         Some(
             About::Field {
                 flaw,
                 place,
-                value: Some(_),
+                value: Some(value),
             },
-        ) => allowed_field(ffa, version, receivers, call, place, flaw),
+        ) => allowed_field(ffa, version, receivers, call, place, value, flaw),
         _ => None,
     }
 }
@@ -48,9 +46,10 @@ fn allowed_field(
     receivers: Option<u64>,
     call: Call,
     place: FieldPlace,
+    value: u64,
     flaw: Flaw,
 ) -> Option<Allowed>
-    ensures { result ≡ allowed_field ffa version receivers call place flaw }
+    ensures { result ≡ allowed_field ffa version receivers call place value flaw }
 {
     match call {
         Call::MemDonate(transfer) => {
@@ -86,7 +85,7 @@ fn allowed_field(
                 flaw,
             )
         }
-        _ => allowed_asked(flaw),
+        _ => allowed_asked(ffa, value, flaw),
     }
 }
 
@@ -108,18 +107,18 @@ fn between(least: u64, most: u64) -> Allowed
     steps(least, most, 1)
 }
 
-// Of a register, where the normal world has so many execution contexts.
-fn allowed_register(contexts: u32, call: Call, refusal: Refusal) -> Option<Allowed>
-    ensures { result ≡ allowed_register contexts call refusal }
+// Of a register.
+fn allowed_register(ffa: Ffa, call: Call, refusal: Refusal) -> Option<Allowed>
+    ensures { result ≡ allowed_register ffa call refusal }
 {
     match refusal {
         Refusal::FlagsReserved => Some(allowed_flags(call)),
-        Refusal::ContextUnknown => allowed_context(contexts, call),
+        Refusal::ContextUnknown => allowed_context(ffa, call),
         Refusal::Fragmented => allowed_fragment(call),
         Refusal::BufferPageCount => Some(between(1, u64::from(MOST_BUFFER_PAGES))),
         Refusal::EndpointNotZero => Some(one(0)),
         Refusal::EndpointNotNormalWorld => Some(one(0)),
-        Refusal::ContextCount => Some(between(1, u64::from(contexts))),
+        Refusal::ContextCount => { Some(between(1, contexts_of(ffa, EndpointId::NORMAL_WORLD))) }
         Refusal::ClassesUnknown => Some(between(0, 15)),
         Refusal::BufferAddressGiven => Some(one(0)),
         Refusal::BufferPagesGiven => Some(one(0)),
@@ -138,28 +137,35 @@ fn allowed_flags(call: Call) -> Allowed
 }
 
 // The same endpoint, in one of its contexts.
-fn allowed_context(contexts: u32, call: Call) -> Option<Allowed>
-    ensures { result ≡ allowed_context contexts call }
+fn allowed_context(ffa: Ffa, call: Call) -> Option<Allowed>
+    ensures { result ≡ allowed_context ffa call }
 {
     match call {
         Call::Run { target, .. } => Some(one(0x10000 * u64::from(target.0))),
-        Call::NotificationGet { receiver, .. } => Some(allowed_contexts(contexts, receiver)),
+        Call::NotificationGet { receiver, .. } => Some(allowed_contexts(ffa, receiver)),
         _ => None,
     }
 }
 
-fn allowed_contexts(contexts: u32, endpoint: EndpointId) -> Allowed
-    ensures { result ≡ allowed_contexts contexts endpoint.0 }
+fn allowed_contexts(ffa: Ffa, endpoint: EndpointId) -> Allowed
+    ensures { result ≡ allowed_contexts ffa endpoint.0 }
 {
-    let last = u64::from(contexts_of(contexts, endpoint).saturating_sub(1));
+    let last = contexts_of(ffa, endpoint) - 1;
     let least = u64::from(endpoint.0);
     steps(least, last * 0x10000 + least, 0x10000)
 }
 
-fn contexts_of(contexts: u32, endpoint: EndpointId) -> u32
-    ensures { result ≡ contexts_of contexts endpoint.0 }
+// How many execution contexts an endpoint has.
+fn contexts_of(ffa: Ffa, endpoint: EndpointId) -> u64
+    ensures value { result ≡ contexts_of ffa endpoint.0 }
+    ensures some { 1 ≤ result }
+    ensures few { result ≤ 8 }
 {
-    if endpoint.0 == 0 { contexts } else { 1 }
+    if ffa == Ffa::V1_2 && endpoint == EndpointId::NORMAL_WORLD {
+        MOST_PROCESSORS as u64
+    } else {
+        1
+    }
 }
 
 // As many bytes as the descriptor has.
@@ -294,14 +300,26 @@ fn allowed_places(end: u128, length: u32) -> Option<Allowed>
     Some(steps(end as u64, most as u64, 16))
 }
 
-// Of a field of a retrieve or a relinquish.
-fn allowed_asked(flaw: Flaw) -> Option<Allowed>
-    ensures { result ≡ allowed_asked flaw }
+// How many endpoints a retrieve may name that names so many.
+fn allowed_names(ffa: Ffa, count: u64) -> Allowed
+    ensures { result ≡ allowed_names ffa count }
+{
+    let most = MOST_RECEIVERS as u64;
+    match ffa {
+        Ffa::V1_1 => one(1),
+        Ffa::V1_2 if 1 <= count && count <= most => one(1),
+        Ffa::V1_2 => between(1, most),
+    }
+}
+
+// Of a field of a retrieve or a relinquish, by the value that it has.
+fn allowed_asked(ffa: Ffa, value: u64, flaw: Flaw) -> Option<Allowed>
+    ensures { result ≡ allowed_asked ffa value flaw }
 {
     match flaw {
         Flaw::Retrieve(_, RetrieveFlaw::Attributes) => Some(steps(0, NORMAL_MEMORY, NORMAL_MEMORY)),
-        Flaw::Retrieve(_, RetrieveFlaw::AccessCount)
-        | Flaw::Relinquish(RelinquishFlaw::EndpointCount) => Some(one(1)),
+        Flaw::Retrieve(_, RetrieveFlaw::AccessCount) => Some(allowed_names(ffa, value)),
+        Flaw::Relinquish(RelinquishFlaw::EndpointCount) => Some(one(1)),
         Flaw::Retrieve(
             _,
             RetrieveFlaw::AccessFlags | RetrieveFlaw::CompositeTold | RetrieveFlaw::AccessReserved,

@@ -147,6 +147,7 @@ module _ (given : Ram) (x : Parts) (ready : IsReadyFor x.manifest given)
     (sent : x.kept.pool.sent ≡ replicate (length x.manifest.endpoints.items) 0) (none : x.kept.buffers ≡ replicate (length x.manifest.endpoints.items) None) (schedule : x.kept.chain ≡ first_schedule (length x.manifest.endpoints.items))
     (versions : x.kept.versions ≡ map (λ (e : Endpoint). e.version) x.manifest.endpoints.items)
     (bitmaps : x.kept.bitmaps.bitmaps ≡ map has_first_bitmaps (enumerate_from 0 x.manifest.endpoints.items)) (bound : x.kept.bitmaps.bound ≡ finite_set.empty) (pending : x.kept.bitmaps.pending ≡ finite_set.empty)
+    (notices : x.kept.bitmaps.notices ≡ finite_set.empty)
     (uuids : have_uuids x.manifest.endpoints.items ≡ true) (laws : TableLaws) where
   abbrev es : List Endpoint
   es = x.manifest.endpoints.items
@@ -220,6 +221,7 @@ module _ (given : Ram) (x : Parts) (ready : IsReadyFor x.manifest given)
     bitmaps = bitmaps i;
     bound = bound i;
     pending = pending i;
+    notices = notices i;
   }
 
   -- the UUIDs, one by one

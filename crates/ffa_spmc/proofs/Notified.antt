@@ -1,7 +1,7 @@
 -- SPDX-License-Identifier: MIT OR Apache-2.0
 -- Calls of notifications change the state as the small machine's.
 use Rattle.std.proofs.Common.{◌≡◌, ◌∙◌, ℕ, Bool, true, false, List, [], ◌∷◌, length, Result, refl, sym, ap, subst}
-use Rattle.std.specs.Prelude.{⊤, ◌||◌, IfOk, OnOk, OnErr, slice_index}
+use Rattle.std.specs.Prelude.{⊤, ◌||◌, is_none, IfOk, OnOk, OnErr, slice_index}
 use Rattle.std.specs.List.{list_any}
 use Rattle.std.proofs.lemmas.Bool.{false_from_ne_true, true≢false}
 use Rattle.ffa_model.specs.Lists.{listed}
@@ -13,9 +13,10 @@ use Rattle.ffa_model.specs.declared.call.Reply.{Reply}
 use Rattle.ffa_model.specs.declared.operation.ErrorCode.{ErrorCode}
 use Rattle.ffa_model.specs.declared.call.NotificationBits.{NotificationBits}
 use Rattle.ffa_model.specs.Bits.{bits_of}
-use Rattle.ffa_model.specs.Calls.{Service, Stepped, first_failure, replied, served, success}
+use Rattle.ffa_model.specs.Calls.{Service, Stepped, first_failure, first_refusal, replied, served, success}
 use Rattle.ffa_model.specs.First.{first}
-use Rattle.ffa_model.specs.Notifications.{Notifications, bind_guards, bitmap_create, bitmap_destroy, class_of, create_guards, destroy_guards, get_guards, get_reply, has_pending, is_pending, manager_class, normal_class, notification_bind, notification_get, notification_set, notification_unbind, notifications_of, partition_class, receiver_bit, set_guards, unbind_guards, with_bitmaps, with_bound, with_notifications, with_pending, without_bitmaps, without_bound, without_pending}
+use Rattle.ffa_model.specs.Notices.{endpoints_to_tell, has_notices, notice_guards, notice_reply, notification_info_get, without_notices}
+use Rattle.ffa_model.specs.Notifications.{Notifications, bind_guards, bitmap_create, bitmap_destroy, class_of, create_guards, destroy_guards, get_guards, get_reply, has_pending, is_pending, manager_class, normal_class, notification_bind, notification_get, notification_set, notification_unbind, notifications_of, partition_class, receiver_bit, set_guards, unbind_guards, with_bitmaps, with_bound, with_notifications, with_set, without_bitmaps, without_bound, without_pending}
 use Rattle.ffa_model.specs.State.{State, is_known_among}
 use Rattle.ffa_model.specs.Step.{serve}
 use Rattle.ffa_spmc.specs.Meaning.{IsManager, Parts, state_of}
@@ -56,6 +57,11 @@ module _ (x : Parts) where
     pub each-bitmap : length x.kept.bitmaps.bitmaps ≡ length s.parties
     each-bitmap = machine.sound.sized.bitmaps
 
+    -- the check of notices is the definition's
+    pub notices-checked : is_none (first_refusal (notice_guards x.manifest.ffa (length x.kept.bitmaps.bitmaps) x.kept.bitmaps 0)) ≡ has_notices s
+    unfolding first
+    notices-checked = λ i. is_none (first_refusal (notice_guards x.manifest.ffa (each-bitmap i) x.kept.bitmaps 0))
+
     pub known-notified : (f : ℕ) → is_known_among (length s.parties) f ≡ true → is_known_among (length x.kept.bitmaps.bitmaps) f ≡ true
     known-notified f known = subst (λ (n : ℕ). is_known_among n f ≡ true) (sym each-bitmap) known
 
@@ -74,6 +80,16 @@ module _ (x : Parts) where
           same
           (done-so r (λ none is. is ∙ ap (λ (f : ℕ). without_pending x.kept.bitmaps f flags) at) cleared)
           (subst (λ (f : ℕ). IfOk r (λ reply. reply ≡ get_reply x.kept.bitmaps f flags)) at replies)
+
+      pub informed : (r : Result Reply ErrorCode) (new : Notifications) (is_wide : Bool) → result_err r ≡ first_failure (notice_guards x.manifest.ffa (length x.kept.bitmaps.bitmaps) x.kept.bitmaps e)
+          → IfOk r (λ reply. reply ≡ notice_reply is_wide (endpoints_to_tell (length x.kept.bitmaps.bitmaps) x.kept.bitmaps)) → OnErr r (new ≡ x.kept.bitmaps) → OnOk r (new ≡ without_notices x.kept.bitmaps)
+          → replied (with_bits new) (reply_or_error r) ≡ served s (notification_info_get s is_wide)
+      unfolding first
+      informed r new is_wide refusal replies same told =
+          notified (notification_info_get s is_wide) (without_notices x.kept.bitmaps) new r (λ reply. reply) refl
+          (refusal ∙ (λ i. first_failure (notice_guards x.manifest.ffa (each-bitmap i) x.kept.bitmaps (at i))))
+          same told
+          (subst (λ (n : ℕ). IfOk r (λ reply. reply ≡ notice_reply is_wide (endpoints_to_tell n x.kept.bitmaps))) each-bitmap replies)
 
       module _ (r : Result ⊤ ErrorCode) (new : Notifications) where
         pub created : (endpoint contexts : ℕ) → result_err r ≡ first_failure (create_guards x.manifest.ffa x.kept.bitmaps e endpoint contexts)
@@ -115,9 +131,9 @@ module _ (x : Parts) where
               refl refl refl refusal same done
 
           pub set : result_err r ≡ first_failure (set_guards (length x.kept.bitmaps.bitmaps) x.kept.bitmaps e its)
-              → OnOk r (new ≡ with_pending x.kept.bitmaps its.receiver.0 (class_of e) (bits_of its.bitmap)) → replied (with_bits new) (done_or_error r) ≡ served s (notification_set s its)
+              → OnOk r (new ≡ with_set x.kept.bitmaps its.receiver.0 (class_of e) (bits_of its.bitmap)) → replied (with_bits new) (done_or_error r) ≡ served s (notification_set s its)
           set refusal done =
-              marked (notification_set s its) (λ n f. set_guards n x.kept.bitmaps f its) (λ f. with_pending x.kept.bitmaps its.receiver.0 (class_of f) (bits_of its.bitmap))
+              marked (notification_set s its) (λ n f. set_guards n x.kept.bitmaps f its) (λ f. with_set x.kept.bitmaps its.receiver.0 (class_of f) (bits_of its.bitmap))
               refl refl refl refusal same done
 
 -- nothing that fails of each element holds of any

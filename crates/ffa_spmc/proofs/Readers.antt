@@ -83,7 +83,7 @@ reads-none x off room =
                                                   λ w x form. refl,
                                                   (
                                                     λ w x form. refl,
-                                                    (λ w x form. refl, (λ w x form. grind (arith, nat_tests, form, off), tt)),
+                                                    (λ w x form. refl, (λ w x form. grind (arith, nat_tests, form, off), (λ w x form. refl, tt))),
                                                   ),
                                                 ),
                                               ),
@@ -161,7 +161,7 @@ resumes-none s x off =
                                                   λ w x form. refl,
                                                   (
                                                     λ w x form. refl,
-                                                    (λ w x form. refl, (λ w x form. refl, tt)),
+                                                    (λ w x form. refl, (λ w x form. refl, (λ w x form. refl, tt))),
                                                   ),
                                                 ),
                                               ),

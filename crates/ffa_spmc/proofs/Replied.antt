@@ -1,6 +1,6 @@
 -- SPDX-License-Identifier: MIT OR Apache-2.0
 -- What each call's part of the manager promises follows from what it keeps where it refuses.
-use Rattle.std.proofs.Common.{◌≡◌, ◌∙◌, Bool, None, true, false, List, Option, Some, Result, Ok, Err, refl, sym, ap, subst}
+use Rattle.std.proofs.Common.{◌≡◌, ◌∙◌, ℕ, Bool, None, true, false, cond, List, [], ◌∷◌, Option, Some, Result, Ok, Err, refl, sym, ap, subst}
 use Rattle.std.specs.Prelude.{IfOk, OnErr, OnOk}
 use Rattle.std.specs.Option.{option_or}
 use Rattle.std.proofs.lemmas.Bool.{true≢false}
@@ -8,13 +8,16 @@ use Rattle.ffa_laws.specs.OwnAccess.{is_memory_call}
 use Rattle.ffa_model.specs.declared.call.Call as calls
 use Rattle.ffa_model.specs.declared.call.DirectMessage.{DirectMessage}
 use Rattle.ffa_model.specs.declared.call.Reply.{Reply}
-use Rattle.ffa_model.specs.declared.call.Reply.TheVariants.{Passed}
+use Rattle.ffa_model.specs.declared.call.Reply.TheVariants.{Error, Passed}
 use Rattle.ffa_model.specs.declared.operation.ErrorCode.{ErrorCode}
+use Rattle.ffa_model.specs.declared.operation.ErrorCode.TheVariants.{NotSupported}
+use Rattle.ffa_model.specs.declared.refusal.Refusal.TheVariants.{FunctionUnknown}
 use Rattle.ffa_model.specs.Access.{access}
-use Rattle.ffa_model.specs.Calls.{Service, Stepped, replied, served, success}
+use Rattle.ffa_model.specs.Calls.{Service, Stepped, answered, first_failure, replied, served, success}
 use Rattle.ffa_model.specs.Ram.{Ram, page_of}
 use Rattle.ffa_model.specs.Refusals.{is_error}
-use Rattle.ffa_model.specs.State.{Buffers, State}
+use Rattle.ffa_model.specs.Setup.{features, features_reply, may_call}
+use Rattle.ffa_model.specs.State.{Buffers, State, version_of}
 use Rattle.ffa_model.specs.Step.{service}
 use Rattle.ffa_memshare.specs.declared.changed.Changed.{Changed}
 use Rattle.ffa_memshare.specs.declared.changed.Value.{Value}
@@ -124,6 +127,18 @@ module _ (x y : Parts) {past : Past} (now : Managed) (seen : managed_of x past �
 -- a call that changes nothing
 pub replied-still : (old : Managed) (c : Service) (reply : Reply) → replied old.state reply ≡ served old.state c → IsReplied old old c reply
 replied-still old c reply is = record { served = is; refused = λ error. refl; unowned = λ p behind none. refl; moments = no-moments old.state old.ram old.past }
+
+-- FFA_FEATURES answers alike where its check fails and where it passes
+featured : (may : Bool) (s : State) (told : Reply) → replied s (cond may told (Error NotSupported))
+    ≡ answered (first_failure ((may, FunctionUnknown) ∷ [])) s s (cond may told (Error NotSupported))
+featured true s told = refl
+featured false s told = refl
+
+pub replied-features : (old : Managed) (function : ℕ) (reply : Reply) → reply ≡ features_reply old.state.ffa old.state.runner (version_of old.state old.state.runner) function
+    → IsReplied old old (features old.state function) reply
+replied-features old function reply is =
+    replied-still old (features old.state function) reply
+    (ap (replied old.state) is ∙ featured (may_call old.state.ffa old.state.runner function) old.state _)
 
 -- a call that isn't on memory changes nobody's access, and what a cache holds stays
 pub answered-beside : (old new : Managed) (held : List Held) (told : Option Changed) (call same : calls.Call) (reply : Reply) → call ≡ same → is_memory_call same ≡ false

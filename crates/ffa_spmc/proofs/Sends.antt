@@ -19,7 +19,7 @@ use Rattle.ffa_model.specs.First.{first, party_of}
 use Rattle.ffa_model.specs.Identifiers.{identifier, place}
 use Rattle.ffa_model.specs.Memory.{page_bytes, run_bytes}
 use Rattle.ffa_model.specs.Messages.{delivered, header_in, message_in, msg_send2, send2_guards, tx_bytes}
-use Rattle.ffa_model.specs.Notifications.{Notifications, with_notifications, manager_class, message_bits, with_pending}
+use Rattle.ffa_model.specs.Notifications.{Notifications, with_notifications, manager_class, message_bits, with_set}
 use Rattle.ffa_model.specs.Ram.{Ram, page_of}
 use Rattle.ffa_model.specs.State.{State, Page, Party, Buffers, is_known, is_known_among, version_of}
 use Rattle.ffa_model.proofs.Guards.{guard-passes}
@@ -140,10 +140,10 @@ module _ (x : Parts) (machine : IsManager x) where
         pub tables-sent : StillHasTables x new
         tables-sent = subst (StillHasTables x) (sym wrote) (tables-filled x machine (receiver e at) (receiver-known passes) (message_in (tx e at)))
 
-        module _ (bitmaps : Notifications) (raised : bitmaps ≡ with_pending x.kept.bitmaps f.0 manager_class message_bits) where
-          told : (y : State) → state_of (record x { ram = new; kept = record x.kept { buffers = list } }) ≡ y → state_of (after_send bitmaps) ≡ with_notifications y (with_pending x.kept.bitmaps (receiver e at) manager_class message_bits)
+        module _ (bitmaps : Notifications) (raised : bitmaps ≡ with_set x.kept.bitmaps f.0 manager_class message_bits) where
+          told : (y : State) → state_of (record x { ram = new; kept = record x.kept { buffers = list } }) ≡ y → state_of (after_send bitmaps) ≡ with_notifications y (with_set x.kept.bitmaps (receiver e at) manager_class message_bits)
           unfolding first
-          told y same = λ i. with_notifications (same i) ((raised ∙ ap (λ (e : ℕ). with_pending x.kept.bitmaps e manager_class message_bits) to-receiver) i)
+          told y same = λ i. with_notifications (same i) ((raised ∙ ap (λ (e : ℕ). with_set x.kept.bitmaps e manager_class message_bits) to-receiver) i)
 
           delivers : state_of (after_send bitmaps) ≡ (msg_send2 s).state
           unfolding first

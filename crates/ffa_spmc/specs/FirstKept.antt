@@ -13,7 +13,7 @@ use Rattle.ffa_stage2.specs.declared.layout.Layout.{Layout}
 use Rattle.ffa_stage2.specs.Layout.{normal_in, regions_in}
 
 -- they are of this manifest, whose UUIDs have 16 bytes each, the layout is that of its tables, and partitions that receive
--- notifications have bitmaps, of which no bit is bound or pending
+-- notifications have bitmaps, of which no bit is bound or pending, and there is nothing to tell
 pub record AreFirst (m own : Manifest) (layout : Layout) (bits : Notifications) : Type 0 where
   pub manifest : own ≡ m
   pub uuids : have_uuids m.endpoints.items ≡ true
@@ -25,3 +25,4 @@ pub record AreFirst (m own : Manifest) (layout : Layout) (bits : Notifications) 
   pub bitmaps : bits.bitmaps ≡ map has_first_bitmaps (enumerate_from 0 m.endpoints.items)
   pub bound : bits.bound ≡ finite_set.empty
   pub pending : bits.pending ≡ finite_set.empty
+  pub notices : bits.notices ≡ finite_set.empty

@@ -50,6 +50,7 @@ state_of x =
       versions = x.kept.versions;
       bound = x.kept.bitmaps.bound;
       pending = x.kept.bitmaps.pending;
+      notices = x.kept.bitmaps.notices;
     }
 
 -- the access of the endpoint at a place, computed from owners and open transactions

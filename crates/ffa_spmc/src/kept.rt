@@ -42,7 +42,7 @@ pub struct Kept<S: Store = Inline> {
 impl<S: Store> Kept<S> {
     /// What the machine of a manifest keeps at first: each page of a region is its endpoint's, nothing is open, nobody has
     /// buffers, the normal world runs, and partitions that receive notifications have bitmaps, of which no bit is bound or
-    /// pending. Each endpoint has the form that the manifest gives it.
+    /// pending, and there is nothing to tell. Each endpoint has the form that the manifest gives it.
     // Not inlined, so that the stack of its copies is free again when the tables are built.
     #[inline(never)]
     pub fn first(manifest: &Manifest, storage: Storage<S>) -> Kept<S>

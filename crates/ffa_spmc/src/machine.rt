@@ -4,6 +4,7 @@ ghost use Rattle.std.specs.Prelude.{None, [], ◌≡◌, ℕ, ◌*◌, ◌<◌, 
 ghost use Rattle.ffa_model.specs.declared.limits.TheConstants.{MOST_ENDPOINTS};
 ghost use Rattle.ffa_model.specs.Access.{access};
 ghost use Rattle.ffa_model.specs.Agreement.{Agrees};
+ghost use Rattle.ffa_model.specs.Notices.{has_notices};
 ghost use Rattle.ffa_model.specs.Notifications.{has_pending, notifications_of};
 ghost use Rattle.ffa_model.specs.Processors.{IsHere};
 ghost use Rattle.ffa_model.specs.Ram.{zero_ram};
@@ -36,7 +37,6 @@ use crate::manager::Manager;
 use crate::storage::{Inline, Storage, Store};
 use ffa_memshare::{Changed, News};
 use ffa_model::{EndpointId, Manifest, Op, Outcome, PageNo, Rights};
-use ffa_notify::Bitmaps;
 use ffa_physmem::PhysMem;
 use ffa_tlb::{NoTlb, Translations};
 use std::marker::Model;
@@ -226,11 +226,12 @@ impl<M: PhysMem + Drop, T: Translations + Drop, S: Store> Machine<M, T, S> {
         self.manager.has_pending(endpoint)
     }
 
-    /// Who has bitmaps of notifications, and which bits are bound and pending.
-    pub fn bitmaps(&self) -> &Bitmaps
-        ensures { result.now ≡ notifications_of self.now.state }
+    /// Whether the normal world would be told of an endpoint by FFA_NOTIFICATION_INFO_GET: whether its schedule receiver
+    /// interrupt is to be pending. On a machine of FF-A 1.1, which tells nobody, it is not.
+    pub fn has_notices(&self) -> bool
+        ensures { result ≡ has_notices self.now.state }
     {
-        self.manager.bitmaps()
+        self.manager.has_notices()
     }
 
     /// Does one operation of the runner. A refusal, which is FFA_ERROR or a fault, changes nothing.

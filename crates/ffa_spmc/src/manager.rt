@@ -273,6 +273,7 @@ impl<M: PhysMem + Drop, S: Store> Manager<M, S> {
                 context,
                 flags,
             } => self.notification_get(*receiver, *context, *flags),
+            Call::NotificationInfoGet { is_wide } => self.notification_info_get(*is_wide),
             Call::Unknown => Reply::Error(ErrorCode::NotSupported),
         }
     }

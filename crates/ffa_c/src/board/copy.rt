@@ -25,10 +25,7 @@ impl Board {
         let kind = BoardMachine::Heap(
             either!(&self.kind, cluster => cluster.copy_in(storage, ram, NoTlb)),
         );
-        Board {
-            kind,
-            notices: self.notices.copy(),
-        }
+        Board { kind }
     }
 
     /// The same machine in this RAM that is lent and in this room.
@@ -42,10 +39,7 @@ impl Board {
         let kind = BoardMachine::Lent(
             either!(&self.kind, cluster => cluster.copy_in(storage, ram, NoTlb)),
         );
-        Board {
-            kind,
-            notices: self.notices.copy(),
-        }
+        Board { kind }
     }
 
     /// The manifest, for which room and RAM for a copy are taken as for a boot.

@@ -2,13 +2,13 @@
 //! The calls of notifications.
 ghost use Rattle.std.specs.Prelude.{◌≡◌};
 ghost use Rattle.ffa_model.specs.Notifications.{bitmap_create, bitmap_destroy, has_pending, notifications_of, notification_bind, notification_get, notification_set, notification_unbind};
+ghost use Rattle.ffa_model.specs.Notices.{has_notices, notification_info_get};
 ghost use Rattle.ffa_spmc.specs.Served.{IsReplied};
 
 use super::Manager;
 use crate::replies::{done_or_error, reply_or_error};
 use crate::storage::Store;
 use ffa_model::{EndpointId, NotificationBits, Reply};
-use ffa_notify::Bitmaps;
 use ffa_physmem::PhysMem;
 
 impl<M: PhysMem + Drop, S: Store> Manager<M, S> {
@@ -19,11 +19,13 @@ impl<M: PhysMem + Drop, S: Store> Manager<M, S> {
         endpoint.is_among(self.endpoints()) && self.kept.bitmaps.has_pending(endpoint)
     }
 
-    // Who has bitmaps, and which bits are bound and pending.
-    pub(crate) fn bitmaps(&self) -> &Bitmaps
-        ensures { result.now ≡ notifications_of self.now.state }
+    // Whether the normal world would be told of an endpoint by FFA_NOTIFICATION_INFO_GET.
+    pub(crate) fn has_notices(&self) -> bool
+        ensures { result ≡ has_notices self.now.state }
     {
-        &self.kept.bitmaps
+        let ffa = self.kept.manifest.ffa;
+        let bitmaps = &self.kept.bitmaps;
+        bitmaps.check_info(ffa, EndpointId::NORMAL_WORLD).is_ok()
     }
 
     // FFA_NOTIFICATION_BITMAP_CREATE of the runner.
@@ -79,5 +81,14 @@ impl<M: PhysMem + Drop, S: Store> Manager<M, S> {
         let ffa = self.kept.manifest.ffa;
         let runner = self.kept.chain.runner();
         reply_or_error(self.kept.bitmaps.get(ffa, runner, receiver, context, flags))
+    }
+
+    // FFA_NOTIFICATION_INFO_GET of the runner.
+    pub(super) fn notification_info_get(&mut self, is_wide: bool) -> Reply
+        ensures { IsReplied self.old self.new (notification_info_get self.old.state is_wide) result }
+    {
+        let ffa = self.kept.manifest.ffa;
+        let runner = self.kept.chain.runner();
+        reply_or_error(self.kept.bitmaps.info_get(ffa, runner, is_wide))
     }
 }

@@ -19,7 +19,7 @@ given c =
 pub returns-clause-pages : goal.returns-clause-pages
 returns-clause-pages c =
     given c ∙ ap (λ (s : Snapshot). s.ram.pages) c.into_machine.ensures.machine ∙ ap (λ (x : Clustered). x.machine.ram.pages) c.in-Lent.cluster-is
-    ∙ ap (λ (b : Boarded). b.machine.ram.pages) (ap (λ (kind : BoardMachine). boarded kind c.self.inside.notices) (sym c.in-Lent.is) ∙ c.self.view_is)
+    ∙ ap (λ (b : Boarded). b.machine.ram.pages) (ap (λ (kind : BoardMachine). boarded kind) (sym c.in-Lent.is) ∙ c.self.view_is)
 
 pub returns-clause-room : goal.returns-clause-room
 returns-clause-room c = c.into_parts-ram.ensures.pages ∙ sym (ap (λ (pages : List (List ℕ)). length pages) (given c))

@@ -8,4 +8,4 @@ pub returns-clause-done : goal.returns-clause-done
 returns-clause-done c =
     let new = c.interrupt.new.self in
     let was : c.args.self.now ≡ Some c.in-Some.board = sym c.self.view_is ∙ c.in-Some.is in
-    rw was (cluster_of new, kept-kind c.in-Some.board new c.in-Some.board.notices c.interrupt.ensures.kind c.interrupt.ensures.notices, c.interrupt.ensures.done)
+    rw was (cluster_of new, kept-kind c.in-Some.board new c.interrupt.ensures.kind, c.interrupt.ensures.done)

@@ -8,4 +8,4 @@ pub returns-clause-done : goal.returns-clause-done
 returns-clause-done c =
     let new = c.op.new.self in
     let was : c.args.self.now ≡ Some c.in-Some.board = sym c.self.view_is ∙ c.in-Some.is in
-    rw was (cluster_of new, kept-kind c.in-Some.board new _ c.op.ensures.kind c.op.ensures.notices, c.op.ensures.done)
+    rw was (cluster_of new, kept-kind c.in-Some.board new c.op.ensures.kind, c.op.ensures.done)

@@ -19,6 +19,6 @@ returns g c =
     let its = c.in_ok-refusal in
     let first = ap (option_map (λ (its : Refusal × Explained). its.0)) its.ensures ∙ firsts (call_told s c.decode-call.result) _ in
     ap Some c.explain.ensures
-    ∙ (λ i. Some (check_explanation c.args.contexts s (c.low.ensures i) (c.decode-call.ensures i) its.refusal))
-    ∙ ap (option_map (check_explanation c.args.contexts s (low (slice_index x 0)) (decode x)))
+    ∙ (λ i. Some (check_explanation s (c.low.ensures i) (c.decode-call.ensures i) its.refusal))
+    ∙ ap (option_map (check_explanation s (low (slice_index x 0)) (decode x)))
     (first ∙ ap (λ (call : calls.Call). first_refusal (service s call).guards) c.decode-call.ensures)

@@ -16,7 +16,7 @@ invariant_of-result g c =
     let are = c.first-kept.ensures.first in
     let within : Manifest → Parts = λ own. record { ram = g.M.PhysMem.ram c.build.new.memory; manifest = own; kept = kept_parts c.first-kept.result } in
     subst (λ own. IsManager (within own)) (sym are.manifest)
-    (machine-first (g.M.PhysMem.ram c.args.ram) (within c.args.manifest.now) c.requires.ram are.base are.ram_blocks are.tables are.regions are.normal c.build.ensures.built c.build.ensures.rest c.first-kept.ensures.pages c.first-kept.ensures.slots c.first-kept.ensures.sent c.first-kept.ensures.buffers c.first-kept.ensures.chain c.first-kept.ensures.versions are.bitmaps are.bound are.pending are.uuids c.built_tables.ensures)
+    (machine-first (g.M.PhysMem.ram c.args.ram) (within c.args.manifest.now) c.requires.ram are.base are.ram_blocks are.tables are.regions are.normal c.build.ensures.built c.build.ensures.rest c.first-kept.ensures.pages c.first-kept.ensures.slots c.first-kept.ensures.sent c.first-kept.ensures.buffers c.first-kept.ensures.chain c.first-kept.ensures.versions are.bitmaps are.bound are.pending are.notices are.uuids c.built_tables.ensures)
 
 pub returns-clause-booted : goal.returns-clause-booted
 returns-clause-booted g c =
@@ -24,13 +24,13 @@ returns-clause-booted g c =
     let within : Manifest → Parts = λ own. record { ram = g.M.PhysMem.ram c.build.new.memory; manifest = own; kept = kept_parts c.first-kept.result } in
     let x = within c.args.manifest.now in
     let first =
-    machine-first (g.M.PhysMem.ram c.args.ram) x c.requires.ram are.base are.ram_blocks are.tables are.regions are.normal c.build.ensures.built c.build.ensures.rest c.first-kept.ensures.pages c.first-kept.ensures.slots c.first-kept.ensures.sent c.first-kept.ensures.buffers c.first-kept.ensures.chain c.first-kept.ensures.versions are.bitmaps are.bound are.pending are.uuids c.built_tables.ensures in
+    machine-first (g.M.PhysMem.ram c.args.ram) x c.requires.ram are.base are.ram_blocks are.tables are.regions are.normal c.build.ensures.built c.build.ensures.rest c.first-kept.ensures.pages c.first-kept.ensures.slots c.first-kept.ensures.sent c.first-kept.ensures.buffers c.first-kept.ensures.chain c.first-kept.ensures.versions are.bitmaps are.bound are.pending are.notices are.uuids c.built_tables.ensures in
     subst (λ own. IsBootedHeld c.args.manifest.now (g.M.PhysMem.ram c.args.ram) (state_of (within own)) x.ram) (sym are.manifest)
     (record {
-      state = state-first (g.M.PhysMem.ram c.args.ram) x c.requires.ram are.base are.ram_blocks are.tables are.regions are.normal c.build.ensures.built c.build.ensures.rest c.first-kept.ensures.pages c.first-kept.ensures.slots c.first-kept.ensures.sent c.first-kept.ensures.buffers c.first-kept.ensures.chain c.first-kept.ensures.versions are.bitmaps are.bound are.pending are.uuids c.built_tables.ensures;
+      state = state-first (g.M.PhysMem.ram c.args.ram) x c.requires.ram are.base are.ram_blocks are.tables are.regions are.normal c.build.ensures.built c.build.ensures.rest c.first-kept.ensures.pages c.first-kept.ensures.slots c.first-kept.ensures.sent c.first-kept.ensures.buffers c.first-kept.ensures.chain c.first-kept.ensures.versions are.bitmaps are.bound are.pending are.notices are.uuids c.built_tables.ensures;
       agrees = agrees x first;
       words = λ e k known block. first.tables.built.each e k (subst (λ (n : ℕ). e < n) (parties_are x) known) block;
-      cleared = cleared-aside (g.M.PhysMem.ram c.args.ram) x c.requires.ram are.base are.ram_blocks are.tables are.regions are.normal c.build.ensures.built c.build.ensures.rest c.first-kept.ensures.pages c.first-kept.ensures.slots c.first-kept.ensures.sent c.first-kept.ensures.buffers c.first-kept.ensures.chain c.first-kept.ensures.versions are.bitmaps are.bound are.pending are.uuids c.built_tables.ensures;
+      cleared = cleared-aside (g.M.PhysMem.ram c.args.ram) x c.requires.ram are.base are.ram_blocks are.tables are.regions are.normal c.build.ensures.built c.build.ensures.rest c.first-kept.ensures.pages c.first-kept.ensures.slots c.first-kept.ensures.sent c.first-kept.ensures.buffers c.first-kept.ensures.chain c.first-kept.ensures.versions are.bitmaps are.bound are.pending are.notices are.uuids c.built_tables.ensures;
       sound = first.sound;
     })
 
@@ -40,6 +40,6 @@ returns-clause-rest g c =
     let within : Manifest → Parts = λ own. record { ram = g.M.PhysMem.ram c.build.new.memory; manifest = own; kept = kept_parts c.first-kept.result } in
     let x = within c.args.manifest.now in
     let first =
-    machine-first (g.M.PhysMem.ram c.args.ram) x c.requires.ram are.base are.ram_blocks are.tables are.regions are.normal c.build.ensures.built c.build.ensures.rest c.first-kept.ensures.pages c.first-kept.ensures.slots c.first-kept.ensures.sent c.first-kept.ensures.buffers c.first-kept.ensures.chain c.first-kept.ensures.versions are.bitmaps are.bound are.pending are.uuids c.built_tables.ensures in
+    machine-first (g.M.PhysMem.ram c.args.ram) x c.requires.ram are.base are.ram_blocks are.tables are.regions are.normal c.build.ensures.built c.build.ensures.rest c.first-kept.ensures.pages c.first-kept.ensures.slots c.first-kept.ensures.sent c.first-kept.ensures.buffers c.first-kept.ensures.chain c.first-kept.ensures.versions are.bitmaps are.bound are.pending are.notices are.uuids c.built_tables.ensures in
     let past = g.M.PhysMem.past c.build.new.memory in
     subst (λ own. TablesRest (state_of (within own)) x.ram past) (sym are.manifest) (rest-of x first past c.build.ensures.at_rest)

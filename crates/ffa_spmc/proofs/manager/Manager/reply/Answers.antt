@@ -1,6 +1,6 @@
 -- SPDX-License-Identifier: MIT OR Apache-2.0
 use Rattle.std.proofs.Common.{refl, rules}
-use Rattle.ffa_spmc.proofs.Replied.{answered-beside, replied-still, answered-as}
+use Rattle.ffa_spmc.proofs.Replied.{answered-beside, replied-features, replied-still, answered-as}
 use Rattle.ffa_spmc.proofs.manager.Manager.reply.Goals as goal
 
 pub returns-in-RxRelease : goal.returns-in-RxRelease
@@ -51,6 +51,9 @@ returns-in-NotificationSet g c = answered-beside c.args.self.now _ _ _ _ _ c.not
 pub returns-in-NotificationGet : goal.returns-in-NotificationGet
 returns-in-NotificationGet g c = answered-beside c.args.self.now _ _ _ _ _ c.notification_get.result c.in-NotificationGet.is refl c.notification_get.ensures
 
+pub returns-in-NotificationInfoGet : goal.returns-in-NotificationInfoGet
+returns-in-NotificationInfoGet g c = answered-beside c.args.self.now _ _ _ _ _ c.notification_info_get.result c.in-NotificationInfoGet.is refl c.notification_info_get.ensures
+
 pub returns-in-MemDonate : goal.returns-in-MemDonate
 returns-in-MemDonate g c = answered-as c.args.self.now _ _ _ _ _ _ _ c.mem_send.result c.in-MemDonate.is c.mem_send.ensures
 
@@ -73,7 +76,7 @@ pub returns-in-Version : goal.returns-in-Version
 returns-in-Version g c = answered-beside c.args.self.now _ _ _ _ _ c.ffa_version.result c.in-Version.is refl c.ffa_version.ensures
 
 pub returns-in-Features : goal.returns-in-Features
-returns-in-Features g c = answered-beside c.args.self.now _ _ _ _ _ c.features.result c.in-Features.is refl (replied-still c.args.self.now _ c.features.result (search rules))
+returns-in-Features g c = answered-beside c.args.self.now _ _ _ _ _ c.features.result c.in-Features.is refl (replied-features c.args.self.now c.in-Features.function c.features.result c.features.ensures)
 
 pub returns-in-IdGet : goal.returns-in-IdGet
 returns-in-IdGet g c = answered-beside c.args.self.now _ _ _ _ _ c.id.result c.in-IdGet.is refl (replied-still c.args.self.now _ c.id.result (search rules))
