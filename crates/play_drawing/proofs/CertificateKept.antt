@@ -1,6 +1,6 @@
 -- SPDX-License-Identifier: MIT OR Apache-2.0
 -- Lines that leave the certificate as it was.
-use Rattle.std.proofs.Common.{◌≡◌, ◌∙◌, ℕ, zero, suc, ◌+◌, ◌-◌, Bool, true, false, cond, not, List, [], ◌∷◌, length, Option, Some, None, refl, sym, ap, ◌==◌, ◌&&◌, nat_le, nat_lt, slice_index, slice_set, if◌then◌else◌, eqb-true, true≢false, option_and_then}
+use Rattle.std.proofs.Common.{◌≡◌, ◌∙◌, ℕ, zero, suc, ◌+◌, ◌-◌, Bool, true, false, cond, not, List, [], ◌∷◌, length, Option, Some, None, refl, sym, ap, ◌==◌, ◌&&◌, nat_lt, if◌then◌else◌, true≢false, option_and_then}
 use Rattle.byteorder.specs.Endian.{little_bytes}
 use Rattle.std.specs.List.{list_all}
 use Rattle.std.specs.FinMap as finite
@@ -8,18 +8,16 @@ use Rattle.std.proofs.lemmas.Option.{none-some, same_Some}
 use Rattle.ffa_model.specs.declared.call.Call as calls
 use Rattle.ffa_model.specs.declared.call.Call.TheVariants.{PartitionInfoGet, MemDonate, MemLend, MemShare, MemRetrieve, MemRelinquish, MemReclaim, MsgSend2, MsgWait, Version}
 use Rattle.ffa_model.specs.declared.certificate.CertRun.{CertRun}
-use Rattle.ffa_model.specs.declared.function.TheConstants.{FFA_INTERRUPT, FFA_NOTIFICATION_BITMAP_CREATE, FFA_NOTIFICATION_GET}
-use Rattle.ffa_model.specs.declared.limits.TheConstants.{MOST_ENDPOINTS, MOST_PROCESSORS}
+use Rattle.ffa_model.specs.declared.function.TheConstants.{FFA_INTERRUPT}
+use Rattle.ffa_model.specs.declared.limits.TheConstants.{MOST_ENDPOINTS}
 use Rattle.ffa_model.specs.declared.operation.Op.{Op}
 use Rattle.ffa_model.specs.declared.operation.Op.TheVariants.{Call, Load, Store, Fetch}
-use Rattle.ffa_model.specs.declared.operation.Outcome.{Outcome}
 use Rattle.ffa_model.specs.declared.operation.Outcome.TheVariants.{Data, Done}
 use Rattle.ffa_model.specs.declared.rights.Rights.{Rights}
 use Rattle.ffa_model.specs.declared.schedule.Status.{Status}
 use Rattle.ffa_model.specs.declared.schedule.Status.TheVariants.{Blocked, Preempted}
 use Rattle.ffa_model.specs.Access.{access, first_handle, handle_at, held_by, is_naming, right_by, right_of, transaction_at}
 use Rattle.ffa_model.specs.Alike.{is_alike, is_same_right}
-use Rattle.ffa_model.specs.Bits.{high_half, low_half}
 use Rattle.ffa_model.specs.Buffers.{filled}
 use Rattle.ffa_model.specs.Calls.{replied}
 use Rattle.ffa_model.specs.Certificate.{access_by_place, are_as_one, certificate, is_same_handle, last_from, run_from, runs_from}
@@ -29,8 +27,7 @@ use Rattle.ffa_model.specs.Memory.{fetch_fault, number_at, read_fault, size_of, 
 use Rattle.ffa_model.specs.Messages.{header_in, message_in, tx_bytes}
 use Rattle.ffa_model.specs.Processors as processors
 use Rattle.ffa_model.specs.Refusals.{is_refusal}
-use Rattle.ffa_model.specs.Registers as registers
-use Rattle.ffa_model.specs.Registers.{decode, function_of, low}
+use Rattle.ffa_model.specs.Registers.{decode}
 use Rattle.ffa_model.specs.Rights.{is_share}
 use Rattle.ffa_model.specs.RunStates.{scheduled}
 use Rattle.ffa_model.specs.Setup.{info_bytes, is_count_alone, uuid_bytes}
@@ -40,62 +37,13 @@ use Rattle.ffa_model.proofs.Reasons.{refused-unchanged}
 use Rattle.ffa_laws.proofs.Changes.{AreRewritten, same_owner, standing, unwritten}
 use Rattle.ffa_laws.proofs.Form.{accessed-kept, served-kept, waited-kept}
 use Rattle.ffa_laws.proofs.Written.{rewritten-filled, rewritten-written}
-use Rattle.ffa_playable.specs.Bench.{Bench, Several, interrupted_by, noticing, operated_by, turned_by}
-use Rattle.ffa_playable.proofs.Noticing.{asked-stays}
-use Rattle.ffa_notify.specs.declared.notices.Notice.{Notice}
-use Rattle.ffa_notify.specs.Noticed.{in_one_context, notice_asked, with_one_context}
-use Rattle.ffa_notify.specs.Notices.{Told}
+use Rattle.ffa_playable.specs.Bench.{Bench, Several, interrupted_by, operated_by, turned_by}
 use Rattle.play_syntax.specs.Lines.{outcome_in, outcome_of}
 use Rattle.play_syntax.specs.TraceLines.{Line, operate, turn, interrupt}
 use Rattle.play_syntax.specs.TraceText.{line_after}
 use Rattle.ffa_laws.specs.OwnAccess.{is_memory_call}
 use Rattle.ffa_laws.proofs.Versions.{version-leaves}
 use Rattle.play_drawing.specs.Effects.{gives_or_takes}
-
--- A CALL IN ONE CONTEXT is one on memory transactions where it is one with its own registers
-first_set : (x : List ℕ) (k value : ℕ) → slice_index (slice_set x (suc k) value) 0 ≡ slice_index x 0
-first_set [] k value = refl
-first_set (a ∷ x) k value = refl
-
--- of registers, by the first one
-decoded : (x : List ℕ) (w0 : ℕ) → low (slice_index x 0) ≡ w0 → decode x ≡ registers.called x (function_of w0)
-unfolding decode
-decoded x w0 is = ap (λ (w : ℕ). registers.called x (function_of w)) is
-
-module _ (x : List ℕ) (k value : ℕ) where
-  beside_create : low (slice_index x 0) ≡ FFA_NOTIFICATION_BITMAP_CREATE
-      → is_memory_call (decode (slice_set x (suc k) value)) ≡ is_memory_call (decode x)
-  beside_create is =
-      ap is_memory_call (decoded (slice_set x (suc k) value) FFA_NOTIFICATION_BITMAP_CREATE (ap low (first_set x k value) ∙ is))
-      ∙ sym (ap is_memory_call (decoded x FFA_NOTIFICATION_BITMAP_CREATE is))
-
-  beside_get : low (slice_index x 0) ≡ FFA_NOTIFICATION_GET
-      → is_memory_call (decode (slice_set x (suc k) value)) ≡ is_memory_call (decode x)
-  beside_get is =
-      ap is_memory_call (decoded (slice_set x (suc k) value) FFA_NOTIFICATION_GET (ap low (first_set x k value) ∙ is))
-      ∙ sym (ap is_memory_call (decoded x FFA_NOTIFICATION_GET is))
-
-one_memory : (x : List ℕ) → is_memory_call (decode (with_one_context x)) ≡ is_memory_call (decode x)
-one_memory x = of (w 0 == FFA_NOTIFICATION_BITMAP_CREATE) (w 0 == FFA_NOTIFICATION_GET) refl refl (nat_lt 0 (w 2) && nat_le (w 2) MOST_PROCESSORS)
-    (low_half (w 1) == 0 && nat_lt (high_half (w 1)) MOST_PROCESSORS)
-  where
-    w : ℕ → ℕ
-    w i = low (slice_index x i)
-
-    of : (c d : Bool) → (w 0 == FFA_NOTIFICATION_BITMAP_CREATE) ≡ c → (w 0 == FFA_NOTIFICATION_GET) ≡ d → (few own : Bool)
-        → is_memory_call (decode (if c && few then slice_set x 2 1 else if d && own then slice_set x 1 0 else x)) ≡ is_memory_call (decode x)
-    of true d create get true own = beside_create x 1 1 (eqb-true (w 0) FFA_NOTIFICATION_BITMAP_CREATE create)
-    of true true create get false true = beside_get x 0 0 (eqb-true (w 0) FFA_NOTIFICATION_GET get)
-    of true true create get false false = refl
-    of true false create get false own = refl
-    of false true create get few true = beside_get x 0 0 (eqb-true (w 0) FFA_NOTIFICATION_GET get)
-    of false true create get few false = refl
-    of false false create get few own = refl
-
-one_gives : (op : Op) (outcome : Option Outcome) → gives_or_takes (operate (in_one_context op)) outcome ≡ gives_or_takes (operate op) outcome
-one_gives (Call x) None = refl
-one_gives (Call x) (Some outcome) = ap (λ (b : Bool). b && not (is_refusal outcome)) (one_memory x)
-one_gives _ _ = refl
 
 -- TWO STATES that say the same of each page
 module _ (s t : State) (pages : length t.pages ≡ length s.pages) (parties : length t.parties ≡ length s.parties)
@@ -236,19 +184,10 @@ module _ (s : State) where
   effected-kept op None none = step-kept op none
   effected-kept op (Some e) none = switched-kept Blocked e
 
-  -- where it asks for a notice nothing is done in the machine
-  noticing-kept : (told : Told) (op : Op) (asked : Option Notice) → notice_asked s.runner op ≡ asked
-      → gives_or_takes (operate op) (outcome_in (noticing told asked (processors.step_resuming s (in_one_context op))).effect) ≡ false
-      → certificate (processors.step_resuming s (in_one_context op)).state ≡ certificate s
-  noticing-kept told op None is none =
-      let one = in_one_context op in
-      effected-kept one (processors.resumed_by s one) (one_gives op (outcome_in (processors.step_resuming s one).effect) ∙ none)
-  noticing-kept told op (Some notice) is none = ap certificate (asked-stays s op notice is)
-
   operated-kept : (several : Option Several) (op : Op) → gives_or_takes (operate op) (outcome_in (operated_by several s op).effect) ≡ false
       → certificate (operated_by several s op).state ≡ certificate s
   operated-kept None op none = step-kept op none
-  operated-kept (Some x) op none = noticing-kept x.told op (notice_asked s.runner op) refl none
+  operated-kept (Some x) op none = effected-kept op (processors.resumed_by s op) none
 
   interrupted-kept : (several : Option Several) → certificate (interrupted_by several s).state ≡ certificate s
   interrupted-kept None = refl

@@ -1,19 +1,15 @@
 -- SPDX-License-Identifier: MIT OR Apache-2.0
 -- Behind lines that were done as many processors may be named as before them, and an operation that is refused changes nothing of
 -- the machine's state, by which its reason goes.
-use Rattle.std.proofs.Common.{◌≡◌, ℕ, Bool, true, false, List, Option, None, Some, sym, ap, ◌∙◌, refl, ◌||◌, if◌then◌else◌, is_some}
+use Rattle.std.proofs.Common.{◌≡◌, ℕ, Bool, true, false, List, Option, None, Some, sym, ap, ◌∙◌, refl, if◌then◌else◌, is_some}
 use Rattle.std.specs.Option.{option_map_or}
 use Rattle.ffa_model.specs.declared.operation.Op.{Op}
-use Rattle.ffa_model.specs.Processors.{effected, resumed_by, step_resuming}
+use Rattle.ffa_model.specs.Processors.{effected, resumed_by}
 use Rattle.ffa_model.specs.Refusals.{is_refusal}
 use Rattle.ffa_model.specs.State.{State}
 use Rattle.ffa_model.proofs.Reasons.{refused-unchanged, why-not}
 use Rattle.ffa_model.specs.Why.{why}
-use Rattle.ffa_notify.specs.declared.notices.Notice.{Notice}
-use Rattle.ffa_notify.specs.Noticed.{in_one_context, notice_asked}
-use Rattle.ffa_notify.specs.Notices.{Told}
-use Rattle.ffa_playable.specs.Bench.{Bench, Several, after_op, noticing, operated_by, processors_of, several_behind, why_of}
-use Rattle.ffa_playable.proofs.Noticing.{asked-stays}
+use Rattle.ffa_playable.specs.Bench.{Bench, Several, after_op, operated_by, processors_of, why_of}
 use Rattle.play_reasons.specs.Reasons.{reason_text}
 use Rattle.play_syntax.specs.Lines.{outcome_in, outcome_of}
 use Rattle.play_syntax.specs.TraceLines.{Line, line_in, operate}
@@ -40,58 +36,30 @@ effected_stays : (s : State) (op : Op) (goes : Option ℕ) → option_map_or is_
 effected_stays s op None refused = refused-unchanged s op refused
 effected_stays s op (Some e) refused = absurd cc
 
--- and so it does where several processors run the machine: what asks for a notice changes nothing of it
-noticing_stays : (told : Told) (s : State) (op : Op) (asked : Option Notice) → notice_asked s.runner op ≡ asked
-    → option_map_or is_refusal (outcome_in (noticing told asked (step_resuming s (in_one_context op))).effect) false ≡ true
-    → (step_resuming s (in_one_context op)).state ≡ s
-noticing_stays told s op None is refused = effected_stays s (in_one_context op) (resumed_by s (in_one_context op)) refused
-noticing_stays told s op (Some notice) is refused = asked-stays s op notice is
-
 operated_stays : (several : Option Several) (s : State) (op : Op) → refuses several s op ≡ true → (operated_by several s op).state ≡ s
 operated_stays None s op refused = refused-unchanged s op refused
-operated_stays (Some x) s op refused = noticing_stays x.told s op (notice_asked s.runner op) refl refused
+operated_stays (Some x) s op refused = effected_stays s op (resumed_by s op) refused
 
 pub refused-stays : (b : Bench) (op : Op) → option_map_or is_refusal (outcome_of b (operate op)) false ≡ true → (after_op b op).state ≡ b.state
 refused-stays b op refused = operated_stays b.several b.state op refused
 
--- A reason doesn't rest on what the normal world has been told, so it is the same behind an operation that left the state.
-module _ (op : Op) where
-  -- the processors behind it, with a state
-  abbrev behind : Option Several → State → State → Bench
-  behind several s left = record { state = left; several = several_behind several s left op }
+-- so it has the same reason behind it
+module _ (op : Op) (b : Bench) (refused : option_map_or is_refusal (outcome_of b (operate op)) false ≡ true) where
+  pub why-behind : why_of (after_op b op) op ≡ why_of b op
+  why-behind = ap (λ (s : State). why_of (record b { state = s }) op) (refused-stays b op refused)
 
-  why_told : (several : Option Several) (s left : State) → left ≡ s
-      → why_of (behind several s left) op ≡ why_of (record { state = s; several = several }) op
-  why_told None s left is = ap (λ (t : State). why_of (record { state = t; several = None }) op) is
-  why_told (Some x) s left is = ap (λ (t : State). why_of (record { state = t; several = Some x }) op) is
-
-  text_told : (several : Option Several) (s left : State) → left ≡ s
-      → reason_text (behind several s left) (operate op) ≡ reason_text (record { state = s; several = several }) (operate op)
-  text_told None s left is = ap (λ (t : State). reason_text (record { state = t; several = None }) (operate op)) is
-  text_told (Some x) s left is = ap (λ (t : State). reason_text (record { state = t; several = Some x }) (operate op)) is
-
-  module _ (b : Bench) (refused : option_map_or is_refusal (outcome_of b (operate op)) false ≡ true) where
-    pub why-behind : why_of (after_op b op) op ≡ why_of b op
-    why-behind = why_told b.several b.state (after_op b op).state (refused-stays b op refused)
-
-    pub text-behind : reason_text (after_op b op) (operate op) ≡ reason_text b (operate op)
-    text-behind = text_told b.several b.state (after_op b op).state (refused-stays b op refused)
+  pub text-behind : reason_text (after_op b op) (operate op) ≡ reason_text b (operate op)
+  text-behind = ap (λ (s : State). reason_text (record b { state = s }) (operate op)) (refused-stays b op refused)
 
 goes_unexplained : (s : State) (op : Op) (goes : Option ℕ) → option_map_or is_refusal (outcome_in (effected s op goes).effect) false ≡ false
     → (if is_some goes then None else why s op) ≡ None
 goes_unexplained s op None done = why-not s op done
 goes_unexplained s op (Some e) done = refl
 
-noticing_unexplained : (told : Told) (s : State) (op : Op) (asked : Option Notice)
-    → option_map_or is_refusal (outcome_in (noticing told asked (step_resuming s (in_one_context op))).effect) false ≡ false
-    → (if is_some asked || is_some (resumed_by s (in_one_context op)) then None else why s (in_one_context op)) ≡ None
-noticing_unexplained told s op None done = goes_unexplained s (in_one_context op) (resumed_by s (in_one_context op)) done
-noticing_unexplained told s op (Some notice) done = refl
-
 unexplained_by : (several : Option Several) (s : State) (op : Op) → refuses several s op ≡ false
     → why_of (record { state = s; several = several }) op ≡ None
 unexplained_by None s op done = why-not s op done
-unexplained_by (Some x) s op done = noticing_unexplained x.told s op (notice_asked s.runner op) done
+unexplained_by (Some x) s op done = goes_unexplained s op (resumed_by s op) done
 
 pub done-unexplained : (b : Bench) (op : Op) → option_map_or is_refusal (outcome_of b (operate op)) false ≡ false → why_of b op ≡ None
 done-unexplained b op done = unexplained_by b.several b.state op done

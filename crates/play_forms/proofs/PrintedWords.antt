@@ -8,7 +8,7 @@ use Rattle.ffa_model.specs.Registers.{low}
 use Rattle.ffa_model.specs.Rows.{Row, is_row_of, row_of, rows}
 use Rattle.play_syntax.specs.TraceLines.{has_no_feed}
 use Rattle.play_syntax.specs.TraceText.{digit, hex}
-use Rattle.ffa_abi.specs.Names.{Row as Name, call_name_of, name_in, other_names}
+use Rattle.ffa_abi.specs.Names.{Row as Name, answer_names, call_name_of, name_in}
 use Rattle.play_forms.proofs.Cuts.{is_inner, IsInner, inner_above}
 
 inner_digit : (d : ℕ) → is_inner (digit d) ≡ true
@@ -54,4 +54,4 @@ pub single_call : (x : List ℕ) → option_map_or has_no_feed (call_name_of x) 
 unfolding call_name_of row_of
 single_call x =
     let w0 = low (slice_index x 0) in
-    single_or (option_map (λ (row : Row). row.name) (find (is_row_of w0) rows)) (name_in other_names w0) (single_row w0 rows refl) (single_in other_names w0 refl)
+    single_or (option_map (λ (row : Row). row.name) (find (is_row_of w0) rows)) (name_in answer_names w0) (single_row w0 rows refl) (single_in answer_names w0 refl)

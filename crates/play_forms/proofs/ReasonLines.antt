@@ -35,7 +35,7 @@ use Rattle.play_forms.proofs.MendLines.{single_address, single_detailed, single_
 use Rattle.play_forms.proofs.Singles.{IsSingle, single_append, single_hex}
 use Rattle.ffa_mend.specs.Mend.{address_of}
 use Rattle.ffa_playable.specs.declared.detail.Detail.{Detail}
-use Rattle.ffa_playable.specs.Standing.{detail_of}
+use Rattle.ffa_playable.specs.Standing.{detail}
 use Rattle.play_reasons.specs.Details.{detailed_text}
 use Rattle.play_reasons.specs.Mends.{address_text, short_text, wanted_text}
 use Rattle.play_forms.proofs.Cuts.{cuts_none, cuts_reason, decimal_digits, digits_single}
@@ -193,7 +193,7 @@ some_cuts base op its None = cuts_none
 some_cuts base op its (Some reason) = line_cuts base op reason (its reason)
 
 told_cuts : (s : Bench) (line : Line) → CutsTo (reason_text s line) []
-told_cuts s (operate op) = some_cuts s.state.ram_base op (detail_of s op) (why_of s op)
+told_cuts s (operate op) = some_cuts s.state.ram_base op (detail s.state op) (why_of s op)
 told_cuts s _ = cuts_none
 
 pub reason_cuts : (explain : Bool) (s : Bench) (line : Line) → CutsTo (reason_if explain s line) []

@@ -11,7 +11,7 @@ use Rattle.std.proofs.KnownBytes.{Appends-trans}
 use Rattle.std.proofs.lemmas.Bool.{cases_Bool, cases_lt, and_from, and_parts, lt-ltb, le-ltb, ne_eqb}
 use Rattle.std.proofs.lemmas.List.Folds.{list_all-append}
 use Rattle.std.proofs.lemmas.Result.{on_ok_weaker}
-use Rattle.ffa_abi.specs.Names.{Row, call_name_of, error_name_of, error_names, name_in, other_names}
+use Rattle.ffa_abi.specs.Names.{Row, answer_names, call_name_of, error_name_of, error_names, name_in}
 use Rattle.ffa_model.specs.Registers.{low}
 use Rattle.ffa_model.specs.Rows.{Row as CallRow, is_row_of, row_of, rows}
 use Rattle.ffa_model.specs.declared.function.TheConstants.{FFA_ERROR}
@@ -203,7 +203,7 @@ pub call_inert : (x other : List ℕ) → is_inert other ≡ true → is_inert (
 unfolding call_name_of row_of
 call_inert x other o =
     let number = low (slice_index x 0) in
-    row_inert (is_row_of number) rows (name_in other_names number) other refl (name_inert other_names number other refl o)
+    row_inert (is_row_of number) rows (name_in answer_names number) other refl (name_inert answer_names number other refl o)
 
 pub or_now : (name : Option (Bor (List ℕ))) (other : Bor (List ℕ)) → (unwrap_or name other).now ≡ unwrap_or (option_map (λ n. n.now) name) other.now
 or_now None other = refl

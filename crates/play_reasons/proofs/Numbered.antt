@@ -127,6 +127,7 @@ are-of-rows =
     ▸ (λ s w x. refl)
     ▸ (λ s w x. refl)
     ▸ (λ s w x. refl)
+    ▸ (λ s w x. refl)
     ▸ tt
 
 abbrev IsIn : State → List ℕ → Option Function → Option Row → Type 0

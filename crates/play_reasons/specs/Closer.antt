@@ -16,7 +16,7 @@ use Rattle.ffa_model.specs.declared.refusal.Refusal.{Refusal}
 use Rattle.ffa_model.specs.declared.refusal.Refusal.TheVariants.{FunctionUnknown, UuidUnknown}
 use Rattle.ffa_model.specs.declared.why.About.{About}
 use Rattle.ffa_model.specs.declared.why.About.TheVariants.{Register, Field}
-use Rattle.ffa_model.specs.Rows.{row_of}
+use Rattle.ffa_model.specs.Rows.{is_wide, row_of}
 use Rattle.ffa_mend.specs.Mend.{call_of}
 use Rattle.play_reasons.specs.Mends.{short_text}
 
@@ -101,9 +101,9 @@ abbrev pub unknown_form : Refusal → ℕ → Option ℕ
 unknown_form FunctionUnknown function = narrow_of function
 unknown_form refusal function = None
 
--- where that is a call's
+-- where that is a call's that has no such form
 abbrev pub name_of_call : ℕ → Option (List ℕ)
-name_of_call function = option_map (λ row. row.name) (row_of function)
+name_of_call function = option_and_then (λ row. if is_wide row then None else Some row.name) (row_of function)
 
 abbrev pub form_text : Option ℕ → List ℕ
 form_text narrow = option_map_or no_form_text (option_and_then name_of_call narrow) []

@@ -20,7 +20,7 @@ use Rattle.ffa_model.specs.declared.why.Why.TheVariants.{Refused, Fault}
 use Rattle.ffa_model.specs.Registers.{low}
 use Rattle.ffa_playable.specs.declared.detail.Detail.{Detail}
 use Rattle.ffa_playable.specs.Bench.{Bench, processors_of, why_of}
-use Rattle.ffa_playable.specs.Standing.{detail_of}
+use Rattle.ffa_playable.specs.Standing.{detail}
 use Rattle.play_syntax.specs.TraceLines.{Line, operate, show, audit, skip, turn, interrupt, line_in}
 use Rattle.play_syntax.specs.TraceText.{bytes_moved, ended, hex}
 use Rattle.ffa_model.specs.Words.{words_of}
@@ -186,7 +186,7 @@ reason_line base op reason detail = ended (reason_mark ++ why_text base op reaso
 -- which the check is about, or which values may be there
 abbrev pub reason_text : Bench → Line → List ℕ
 reason_text b (operate op) =
-    option_map_or (λ reason. reason_line b.state.ram_base op reason (detail_of b op reason)) (why_of b op) []
+    option_map_or (λ reason. reason_line b.state.ram_base op reason (detail b.state op reason)) (why_of b op) []
 reason_text b show = []
 reason_text b audit = []
 reason_text b skip = []

@@ -150,13 +150,13 @@ fn put_formless<A: Allocator>(text: &mut Draft<A>, name: &str)
     text.put(" has no 64-bit form");
 }
 
-// The name of the call with this function.
+// The name of the call with this function, if the call has no 64-bit form.
 fn name_of_call(function: u32) -> Option<&'static str>
     ensures { option_map (λ n. n.now) result ≡ name_of_call function }
 {
     match call_row(function) {
-        Some((_, name, _, _)) => Some(name),
-        None => None,
+        Some((_, name, whole, _)) if whole.is_empty() => Some(name),
+        _ => None,
     }
 }
 

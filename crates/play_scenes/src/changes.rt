@@ -26,6 +26,10 @@ pub(crate) const RETRIEVES: [Change; 13] = changes![
     Field Fragment Sender Handle Length Tag Kind Right TooLong Field BufferAddress NoBuffers BufferPages
 ];
 
+/// In whom a retrieve names.
+pub(crate) const NAMES: [Change; 6] =
+    changes![AllNamed OthersNamed AllNamed OneNamed OthersNamed AllNamedAsOne];
+
 pub(crate) const RELINQUISHES: [Change; 8] =
     changes![Nothing NotHeld Zeros Handle Nothing Sender Nothing Field];
 

@@ -1,8 +1,10 @@
 // SPDX-License-Identifier: MIT OR Apache-2.0
 //! Descriptors: what an endpoint stores into its TX for a call, as it should be or with something changed.
+ghost use Rattle.std.specs.Prelude.{◌≤◌};
+
 use crate::dice::Dice;
 use crate::generator::{Generator, function_of};
-use crate::offers::Offer;
+use crate::offers::{MOST_TAKERS, Offer};
 use crate::stage::Stage;
 use byteorder::{ByteOrder, LittleEndian};
 use ffa_model::{EndpointId, Kind, RelinquishDesc, RetrieveDesc, Size, Version};
@@ -61,11 +63,46 @@ impl Message {
     }
 }
 
+/// The most endpoints that a retrieve names.
+pub(crate) const MOST_NAMED: usize = MOST_TAKERS + 1;
+
+/// A retrieve that names the first endpoints of an array in its order. Bit 10 of its flags is set or not.
+#[derive(Clone, Copy)]
+pub(crate) struct NamingRetrieve {
+    pub desc: RetrieveDesc,
+    pub named: [EndpointId; MOST_NAMED],
+    /// The number of endpoints that it names.
+    pub count: usize,
+    pub has_bit_10: bool,
+}
+
+impl NamingRetrieve {
+    // Each access descriptor says what the writer asks for, since the manager reads the permissions of the writer's own alone.
+    fn write(&self, version: Version, writer: EndpointId, page: &mut [u8; PAGE_SIZE]) -> u32 {
+        write_retrieve(version, &self.desc, writer, page);
+        let permissions = page[access_start(version, 0) + 2];
+        let count = self.count.min(MOST_NAMED);
+        for index in 0..count {
+            let at = access_start(version, index);
+            LittleEndian::write_u16(&mut page[at..], self.named[index].0);
+            page[at + 2] = permissions;
+        }
+        LittleEndian::write_u32(&mut page[28..], count as u32);
+        if self.has_bit_10 {
+            page[5] |= 4;
+        }
+        access_start(version, count) as u32
+    }
+}
+
 /// What stands in TX for a call.
 #[derive(Clone, Copy)]
 pub(crate) enum Descriptor {
     Send(Offer),
     Retrieve(RetrieveDesc),
+    NamingRetrieve(NamingRetrieve),
+    /// A header with a handle and zeros, as a hypervisor sends it.
+    ReadBack(u64),
     Relinquish(RelinquishDesc),
     Message(Message),
 }
@@ -75,7 +112,8 @@ impl Descriptor {
     fn deed(&self) -> Deed {
         match self {
             Descriptor::Send(offer) => deed_of(offer.kind),
-            Descriptor::Retrieve(_) => Deed::Retrieve,
+            Descriptor::Retrieve(_) | Descriptor::NamingRetrieve(_) => Deed::Retrieve,
+            Descriptor::ReadBack(_) => Deed::ReadBack,
             Descriptor::Relinquish(_) => Deed::Relinquish,
             Descriptor::Message(_) => Deed::Message,
         }
@@ -93,6 +131,11 @@ impl Descriptor {
                 write_send(version, offer.kind, &offer.describe(), page).ok()
             }
             Descriptor::Retrieve(desc) => Some(write_retrieve(version, desc, writer, page)),
+            Descriptor::NamingRetrieve(naming) => Some(naming.write(version, writer, page)),
+            Descriptor::ReadBack(handle) => {
+                LittleEndian::write_u64(&mut page[8..], *handle);
+                Some(access_start(version, 0) as u32)
+            }
             Descriptor::Relinquish(desc) => Some(write_relinquish(desc, page)),
             Descriptor::Message(message) => {
                 message.write(page);
@@ -127,6 +170,18 @@ fn access_size(version: Version) -> usize {
     }
 }
 
+// Where the access descriptor with an index begins.
+fn access_start(version: Version, index: usize) -> usize
+    requires { index ≤ MOST_NAMED }
+    ensures { result ≤ 144 }
+{
+    match version {
+        Version::Compact => 32 + 16 * index,
+        Version::V1_1 => 48 + 16 * index,
+        Version::V1_2 => 48 + 32 * index,
+    }
+}
+
 // The sizes of its fields.
 fn access_fields(version: Version) -> &'static [usize] {
     match version {
@@ -158,7 +213,10 @@ impl<'m, S: Stage + Drop> Generator<'m, S> {
         }
         self.write_tx(&page, length);
         let answer = match descriptor {
-            Descriptor::Send(_) | Descriptor::Retrieve(_) => {
+            Descriptor::Send(_)
+            | Descriptor::Retrieve(_)
+            | Descriptor::NamingRetrieve(_)
+            | Descriptor::ReadBack(_) => {
                 let function = self.dice.either(function_of(deed));
                 let arguments = self.dice.lengths(u64::from(length), change);
                 self.call(function, &arguments)
@@ -240,10 +298,11 @@ impl Dice {
                     (end, &COMPOSITE)
                 }
             },
-            Descriptor::Retrieve(_) => match self.one_in(3) {
+            Descriptor::Retrieve(_) | Descriptor::NamingRetrieve(_) => match self.one_in(3) {
                 true => (array, access),
                 false => self.header_fields(version),
             },
+            Descriptor::ReadBack(_) => self.header_fields(version),
             Descriptor::Relinquish(_) => (0, &RELINQUISH),
             Descriptor::Message(_) => (0, &MESSAGE),
         }

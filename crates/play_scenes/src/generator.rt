@@ -11,8 +11,8 @@ use bitflags::Flags;
 use ffa_abi::decode;
 use ffa_model::function::*;
 use ffa_model::{
-    Call, Endpoint, EndpointId, MOST_ENDPOINTS, Manifest, Op, Outcome, Properties, Range, Version,
-    Work,
+    Call, Endpoint, EndpointId, Ffa, MOST_ENDPOINTS, Manifest, Op, Outcome, Properties, Range,
+    Version, Work,
 };
 use play_transcript::{Attempt, Change, Deed, TraceEntry};
 
@@ -77,6 +77,8 @@ pub(crate) struct Rounds {
     pub sends: Round,
     pub read_only: Round,
     pub retrieves: Round,
+    pub names: Round,
+    pub read_backs: Round,
     pub relinquishes: Round,
     pub creates: Round,
     pub binds: Round,
@@ -101,7 +103,7 @@ pub(crate) fn function_of(deed: Deed) -> u32 {
         Deed::Share => FFA_MEM_SHARE,
         Deed::Lend => FFA_MEM_LEND,
         Deed::Donate => FFA_MEM_DONATE,
-        Deed::Retrieve => FFA_MEM_RETRIEVE_REQ,
+        Deed::Retrieve | Deed::ReadBack => FFA_MEM_RETRIEVE_REQ,
         Deed::Relinquish => FFA_MEM_RELINQUISH,
         Deed::Reclaim => FFA_MEM_RECLAIM,
         Deed::CreateBitmaps => FFA_NOTIFICATION_BITMAP_CREATE,
@@ -110,6 +112,7 @@ pub(crate) fn function_of(deed: Deed) -> u32 {
         Deed::Unbind => FFA_NOTIFICATION_UNBIND,
         Deed::SetBits => FFA_NOTIFICATION_SET,
         Deed::GetBits => FFA_NOTIFICATION_GET,
+        Deed::AskNotices => FFA_NOTIFICATION_INFO_GET,
         _ => FFA_ERROR,
     }
 }
@@ -197,6 +200,11 @@ impl<'m, S: Stage + Drop> Generator<'m, S> {
     /// The runner's buffers, where it has some.
     pub(crate) fn buffers(&self) -> Option<MappedBuffers> {
         self.known_of(self.runner()).buffers
+    }
+
+    /// Whether the machine serves FF-A 1.2.
+    pub(crate) fn serves_1_2(&self) -> bool {
+        self.manifest.ffa == Ffa::V1_2
     }
 
     // How many endpoints there are.

@@ -2,9 +2,9 @@
 //! Notifications.
 use crate::changes::BITS;
 use crate::dice::{Dice, Round};
-use crate::generator::{Generator, halves, pair};
+use crate::generator::{Generator, function_of, halves, pair};
 use crate::stage::Stage;
-use ffa_model::EndpointId;
+use ffa_model::{EndpointId, MOST_PROCESSORS};
 use play_transcript::{Change, Deed};
 
 /// The flags of FFA_NOTIFICATION_GET that ask for all classes.
@@ -33,10 +33,28 @@ impl<'m, S: Stage + Drop> Generator<'m, S> {
     fn play_create(&mut self) {
         let (change, arguments) = match self.rounds.creates.below(5) {
             1 => (Change::OfAnother, [0x8001, 1]),
-            3 => (Change::Contexts, [0, self.dice.pick(&[0, 2])]),
-            _ => (Change::Nothing, [0, 1]),
+            3 => (Change::Contexts, [0, self.wrong_contexts()]),
+            _ => (Change::Nothing, [0, self.contexts()]),
         };
         self.attempt(Deed::CreateBitmaps, None, change, &arguments);
+    }
+
+    // How many execution contexts the normal world may have: in FF-A 1.2 as many as there may be processors.
+    fn contexts(&mut self) -> u64 {
+        if self.serves_1_2() {
+            1 + u64::from(self.dice.below(MOST_PROCESSORS as u32))
+        } else {
+            1
+        }
+    }
+
+    // How many it can't have.
+    fn wrong_contexts(&mut self) -> u64 {
+        if self.serves_1_2() {
+            self.dice.pick(&[0, MOST_PROCESSORS as u64 + 1])
+        } else {
+            self.dice.pick(&[0, 2])
+        }
     }
 
     // What is pending is got between two tries, so that the bitmaps can go. Then what needs them is tried.
@@ -80,6 +98,24 @@ impl<'m, S: Stage + Drop> Generator<'m, S> {
             _ => runner,
         };
         self.attempt(Deed::GetBits, None, change, &[word, classes]);
+    }
+
+    /// FFA_NOTIFICATION_INFO_GET in either form, sometimes twice. A partition, which may not make this call, seldom does.
+    pub(crate) fn play_notices(&mut self) {
+        if self.runner() == EndpointId::NORMAL_WORLD {
+            self.ask_notices();
+            if self.dice.one_in(4) {
+                self.ask_notices();
+            }
+        } else if self.dice.one_in(4) {
+            self.ask_notices();
+        }
+    }
+
+    fn ask_notices(&mut self) {
+        self.announce(Deed::AskNotices, None, Change::Nothing);
+        let function = self.dice.either(function_of(Deed::AskNotices));
+        self.call(function, &[]);
     }
 
     // Binds or unbinds bits that another endpoint may set, or sets bits of another, and answers whether that is done.

@@ -62,6 +62,16 @@ impl Offer {
         None
     }
 
+    /// A receiver other than an endpoint, if there is one.
+    pub(crate) fn other_taker(&self, endpoint: EndpointId) -> Option<EndpointId> {
+        for taker in self.takers.iter().flatten() {
+            if taker.endpoint != endpoint {
+                return Some(taker.endpoint);
+            }
+        }
+        None
+    }
+
     // Whether it is what an endpoint looks for.
     fn fits(&self, wish: Wish, endpoint: EndpointId) -> bool {
         let taker = self.taker(endpoint);

@@ -1,7 +1,7 @@
 // SPDX-License-Identifier: MIT OR Apache-2.0
 //! Retrieves, relinquishes and reclaims.
-use crate::changes::{RELINQUISHES, RETRIEVES};
-use crate::descriptors::Descriptor;
+use crate::changes::{NAMES, RELINQUISHES, RETRIEVES};
+use crate::descriptors::{Descriptor, MOST_NAMED, NamingRetrieve};
 use crate::generator::{Generator, halves};
 use crate::offers::{Offer, Wish};
 use crate::stage::Stage;
@@ -61,6 +61,64 @@ impl<'m, S: Stage + Drop> Generator<'m, S> {
         }
     }
 
+    /// A retrieve that names all receivers, or others, or only the runner with bit 10 of the flags. Mostly the transaction has
+    /// two receivers.
+    pub(crate) fn play_naming_retrieve(&mut self) {
+        if let Some(offer) = self.offer_to_two() {
+            let change = self.rounds.names.next_of(&NAMES);
+            let (named, count) = self.names(&offer, change);
+            let naming = NamingRetrieve {
+                desc: self.fitting(&offer),
+                named,
+                count,
+                has_bit_10: change == Change::OneNamed || change == Change::AllNamedAsOne,
+            };
+            self.release_mostly();
+            self.retrieve_by(&Descriptor::NamingRetrieve(naming), &offer, change);
+        }
+    }
+
+    // A transaction that the runner may take, with two receivers if a few tries find one.
+    fn offer_to_two(&mut self) -> Option<Offer> {
+        let mut offer = self.any_offer(Wish::ToTake)?;
+        for _ in 0..4 {
+            if offer.takers[1].is_none() {
+                offer = self.any_offer(Wish::ToTake)?;
+            }
+        }
+        Some(offer)
+    }
+
+    // The endpoints that a retrieve of the runner names, and how many of the array they are.
+    fn names(&mut self, offer: &Offer, change: Change) -> ([EndpointId; MOST_NAMED], usize) {
+        let runner = self.runner();
+        let wrong = self.no_taker(offer);
+        match (change, offer.other_taker(runner)) {
+            (Change::OneNamed, _) => ([runner; MOST_NAMED], 1),
+            (Change::OthersNamed, Some(other)) => self.dice.pick(&[
+                ([runner, wrong, other], 2),
+                ([wrong, runner, other], 2),
+                ([other, runner, wrong], 3),
+            ]),
+            (Change::OthersNamed, None) => ([runner, wrong, wrong], 2),
+            (_, Some(other)) => self.dice.pick(&[
+                ([runner, other, wrong], 2),
+                ([other, runner, wrong], 2),
+            ]),
+            (_, None) => ([runner; MOST_NAMED], 1),
+        }
+    }
+
+    // An endpoint that is no receiver of a transaction, or the identifier of none.
+    fn no_taker(&mut self, offer: &Offer) -> EndpointId {
+        let other = self.another();
+        if offer.taker(other).is_some() || self.dice.one_in(4) {
+            EndpointId(self.dice.pick(&[0x8000, 0x8008, 0x7FFF, 0xFFFF]))
+        } else {
+            other
+        }
+    }
+
     // A retrieve that asks for what may be held.
     fn fitting(&mut self, offer: &Offer) -> RetrieveDesc {
         let grant = offer.taker(self.runner()).and_then(|taker| taker.grant);
@@ -91,24 +149,72 @@ impl<'m, S: Stage + Drop> Generator<'m, S> {
         if change == Change::NoBuffers {
             return self.attempt_without_buffers(Deed::Retrieve, &[64, 64]);
         }
+        self.retrieve_by(&Descriptor::Retrieve(desc), offer, change);
+    }
+
+    // Makes a retrieve by a descriptor, where the runner has buffers.
+    fn retrieve_by(&mut self, descriptor: &Descriptor, offer: &Offer, change: Change) {
         if !self.need_buffers() {
             return;
         }
         let runner = self.runner();
         let sender = Some(offer.sender);
+        if let Some((length, answer)) = self.attempt_by_tx(descriptor, sender, change) {
+            if let Some(answer) = answer {
+                self.fill_by_response(&answer);
+                match offer.kind {
+                    Kind::Donate => self.offers.remove(offer.handle),
+                    Kind::Share | Kind::Lend => self.offers.set_held(offer.handle, runner, true),
+                }
+                self.read_parts(offer);
+            }
+            self.read_tx(length);
+        }
+        self.release_mostly();
+    }
+
+    // A response stands in the runner's RX.
+    fn fill_by_response(&mut self, answer: &[u64; 8]) {
+        let runner = self.runner();
+        let bytes = (answer[1] % (1 << 32)) as u32;
+        self.known_mut(runner).fill_rx(bytes);
+    }
+
+    /// The normal world reads back what it sent, or tries it with what another sent. A partition, which may not, seldom does.
+    pub(crate) fn play_read_back(&mut self) {
+        if self.runner() != EndpointId::NORMAL_WORLD && !self.dice.one_in(8) {
+            return;
+        }
+        let (wish, change) = self.rounds.read_backs.next_of(&[
+            (Wish::OwnFree, Change::Nothing),
+            (Wish::ToTake, Change::NotOwn),
+            (Wish::OwnHeld, Change::Nothing),
+            (Wish::OwnFree, Change::Field),
+            (Wish::OwnFree, Change::Nothing),
+            (Wish::OwnHeld, Change::Handle),
+            (Wish::OfOthers, Change::NotOwn),
+        ]);
+        if let Some(offer) = self.any_offer(wish)
+            && self.need_buffers()
+        {
+            self.read_back(&offer, change);
+        }
+    }
+
+    fn read_back(&mut self, offer: &Offer, change: Change) {
+        self.release_mostly();
+        let handle = match change {
+            Change::Handle => offer.handle ^ 1 << 20,
+            _ => offer.handle,
+        };
+        let descriptor = Descriptor::ReadBack(handle);
         if let Some((length, answer)) = self.attempt_by_tx(
-            &Descriptor::Retrieve(desc),
-            sender,
+            &descriptor,
+            Some(offer.sender),
             change,
         ) {
             if let Some(answer) = answer {
-                let bytes = (answer[1] % (1 << 32)) as u32;
-                self.known_mut(runner).fill_rx(bytes);
-                match offer.kind {
-                    Kind::Donate => self.offers.remove(desc.handle),
-                    Kind::Share | Kind::Lend => self.offers.set_held(desc.handle, runner, true),
-                }
-                self.read_parts(offer);
+                self.fill_by_response(&answer);
             }
             self.read_tx(length);
         }

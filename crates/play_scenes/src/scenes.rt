@@ -22,12 +22,33 @@ macro_rules! play_one {
 /// The most scenes of a turn.
 const MOST_SCENES: u32 = 4;
 
+/// On a machine of FF-A 1.2, one scene in this number has calls that FF-A 1.1 does not have.
+const LATER_SCENES: u32 = 8;
+
 /// The most calls until an endpoint runs: each blocked one is answered once, and the normal world gives cycles then.
 const MOST_CALLS: usize = 12;
 
 impl<'m, S: Stage + Drop> Generator<'m, S> {
     // A scene is a few operations that belong together.
     fn play_scene(&mut self) {
+        if self.serves_1_2() && self.dice.one_in(LATER_SCENES) {
+            self.play_later_scene();
+        } else {
+            self.play_any_scene();
+        }
+    }
+
+    // A scene of what only a machine of FF-A 1.2 has.
+    fn play_later_scene(&mut self) {
+        play_one! { self;
+            3 play_notices
+            3 play_naming_retrieve
+            2 play_read_back
+        }
+    }
+
+    // A scene of what each machine has.
+    fn play_any_scene(&mut self) {
         play_one! { self;
             2 play_setup
             2 play_information

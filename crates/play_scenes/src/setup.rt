@@ -78,7 +78,7 @@ impl<'m, S: Stage + Drop> Generator<'m, S> {
 
     /// On a machine of FF-A 1.2 a runner without buffers asks for a version, if it never did and now and then.
     pub(crate) fn ask_version(&mut self) {
-        if self.manifest.ffa == Ffa::V1_2
+        if self.serves_1_2()
             && (self.known_of(self.runner()).version.is_none() || self.dice.one_in(4))
         {
             let word = self.dice.pick(&[0x1_0000, 0x1_0001, 0x1_0002, 0x1_0002]);

@@ -1,9 +1,8 @@
 -- SPDX-License-Identifier: MIT OR Apache-2.0
 -- No line changes how many processors a trace may name.
 use Rattle.std.proofs.Common.{◌≡◌, ℕ, Bool, true, false, List, [], ◌∷◌, Option, Some, None, nat_lt, ◌∙◌, refl}
-use Rattle.ffa_model.specs.declared.operation.Op.{Op}
 use Rattle.ffa_model.specs.State.{State}
-use Rattle.ffa_playable.specs.Bench.{Bench, Several, after_op, processors_of, several_behind, turned_by}
+use Rattle.ffa_playable.specs.Bench.{Bench, Several, processors_of, turned_by}
 use Rattle.play_syntax.specs.TraceLines.{Line, operate, turn, line_in}
 use Rattle.play_syntax.specs.TraceText.{line_after, after, after_all}
 
@@ -16,13 +15,8 @@ processors-turned (Some x) s p = of (nat_lt p x.count) refl
     of true is = rw is refl
     of false is = rw is refl
 
-processors-operated : (several : Option Several) (s left : State) (op : Op)
-    → processors_of (record { state = left; several = several_behind several s left op }) ≡ processors_of (record { state = s; several = several })
-processors-operated None s left op = refl
-processors-operated (Some x) s left op = refl
-
 pub processors-after-line : (b : Bench) (line : Line) → processors_of (line_after b line) ≡ processors_of b
-processors-after-line b (operate op) = processors-operated b.several b.state (after_op b op).state op
+processors-after-line b (operate op) = refl
 processors-after-line b (turn processor) = processors-turned b.several b.state processor
 processors-after-line b _ = refl
 

@@ -5,9 +5,9 @@ use Rattle.ffa_model.specs.declared.endpoint.EndpointId.{EndpointId}
 use Rattle.play_syntax.specs.TraceText.{hex, spaced}
 use Rattle.play_transcript.specs.declared.attempts.Attempt.{Attempt}
 use Rattle.play_transcript.specs.declared.attempts.Change.{Change}
-use Rattle.play_transcript.specs.declared.attempts.Change.TheVariants.{Nothing, NoBuffers, BuffersThere, PageCount, TxMisplaced, RxMisplaced, Overlap, TxUnfit, RxUnfit, NotZero, OfAnother, NobodysUuid, Length, Fragment, TooLong, BufferAddress, BufferPages, Field, Sender, Stranger, Oneself, Swapped, NormalWorld, Outside, UnfitPage, Grant, Zeros, Full, ReadOnly, Handle, Tag, Kind, Right, HeldAlready, NotOffered, NotHeld, StillHeld, NotOwn, Flags, Reserved, InHeader, NoBytes, BeyondTx, AboveRx, RxFull, NoBitmaps, NoBit, Taken, Context, Contexts, Classes, Pending}
+use Rattle.play_transcript.specs.declared.attempts.Change.TheVariants.{Nothing, NoBuffers, BuffersThere, PageCount, TxMisplaced, RxMisplaced, Overlap, TxUnfit, RxUnfit, NotZero, OfAnother, NobodysUuid, Length, Fragment, TooLong, BufferAddress, BufferPages, Field, Sender, Stranger, Oneself, Swapped, NormalWorld, Outside, UnfitPage, Grant, Zeros, Full, ReadOnly, Handle, Tag, Kind, Right, HeldAlready, NotOffered, NotHeld, StillHeld, NotOwn, AllNamed, OneNamed, AllNamedAsOne, OthersNamed, Flags, Reserved, InHeader, NoBytes, BeyondTx, AboveRx, RxFull, NoBitmaps, NoBit, Taken, Context, Contexts, Classes, Pending}
 use Rattle.play_transcript.specs.declared.attempts.Deed.{Deed}
-use Rattle.play_transcript.specs.declared.attempts.Deed.TheVariants.{Setup, Information, NoCall, Map, Unmap, Release, Wait, Yield, Run, HandOver, Request, Respond, Message, Share, Lend, Donate, Retrieve, Relinquish, Reclaim, CreateBitmaps, DestroyBitmaps, Bind, Unbind, SetBits, GetBits, Access, ReadTx, ReadRx, ReadPages, Show}
+use Rattle.play_transcript.specs.declared.attempts.Deed.TheVariants.{Setup, Information, NoCall, Map, Unmap, Release, Wait, Yield, Run, HandOver, Request, Respond, Message, Share, Lend, Donate, Retrieve, ReadBack, Relinquish, Reclaim, CreateBitmaps, DestroyBitmaps, Bind, Unbind, SetBits, GetBits, AskNotices, Access, ReadTx, ReadRx, ReadPages, Show}
 
 abbrev pub deed_words : Deed → List ℕ
 deed_words Setup = codes " makes a setup call"
@@ -27,6 +27,7 @@ deed_words Share = codes " shares pages with"
 deed_words Lend = codes " lends pages to"
 deed_words Donate = codes " donates pages to"
 deed_words Retrieve = codes " retrieves pages of"
+deed_words ReadBack = codes " reads back a transaction of"
 deed_words Relinquish = codes " relinquishes pages of"
 deed_words Reclaim = codes " reclaims its pages"
 deed_words CreateBitmaps = codes " creates notification bitmaps"
@@ -35,6 +36,7 @@ deed_words Bind = codes " binds notification bits to"
 deed_words Unbind = codes " unbinds notification bits from"
 deed_words SetBits = codes " sets notification bits of"
 deed_words GetBits = codes " gets pending notifications"
+deed_words AskNotices = codes " asks which endpoints have pending notifications"
 deed_words Access = codes " accesses memory"
 deed_words ReadTx = codes " reads back its TX"
 deed_words ReadRx = codes " reads its RX"
@@ -85,6 +87,10 @@ change_words NotOffered = codes ", which are not offered to it"
 change_words NotHeld = codes ", which it does not hold"
 change_words StillHeld = codes ", which a receiver still holds"
 change_words NotOwn = codes ", which it did not send"
+change_words AllNamed = codes ", with the names of all receivers"
+change_words OneNamed = codes ", with its own name and bit 10 of the flags"
+change_words AllNamedAsOne = codes ", with the names of all receivers and bit 10 of the flags"
+change_words OthersNamed = codes ", with the name of a wrong receiver"
 change_words Flags = codes ", with a flag that must be 0"
 change_words Reserved = codes ", with a reserved field set"
 change_words InHeader = codes ", which begins in its header"

@@ -6,7 +6,7 @@ use Rattle.std.specs.Prelude.{◌≡◌, ℕ, suc, ◌+◌, ◌-◌, ◌*◌, �
 use Rattle.std.specs.Option.{option_map, option_map_or}
 use Rattle.ffa_model.specs.declared.function.TheConstants.{FFA_ERROR}
 use Rattle.ffa_model.specs.declared.operation.ErrorCode.{ErrorCode}
-use Rattle.ffa_model.specs.declared.operation.ErrorCode.TheVariants.{NotSupported, InvalidParameters, NoMemory, Busy, Denied}
+use Rattle.ffa_model.specs.declared.operation.ErrorCode.TheVariants.{NotSupported, InvalidParameters, NoMemory, Busy, Denied, NoData}
 use Rattle.ffa_model.specs.declared.operation.FaultKind.{FaultKind}
 use Rattle.ffa_model.specs.declared.operation.FaultKind.TheVariants.{Translation, Permission, Alignment, AccessFlag, OutsideRam}
 use Rattle.ffa_model.specs.declared.operation.Op.{Op}
@@ -45,6 +45,7 @@ column_of_error InvalidParameters = 2
 column_of_error NoMemory = 3
 column_of_error Busy = 4
 column_of_error Denied = 5
+column_of_error NoData = 6
 
 abbrev pub column_of_fault : FaultKind → ℕ
 column_of_fault Translation = 1
@@ -55,7 +56,7 @@ column_of_fault OutsideRam = 5
 
 -- the numbers of the errors in the order of their columns
 abbrev pub error_numbers : List ℕ
-error_numbers = map code_number (NotSupported ∷ InvalidParameters ∷ NoMemory ∷ Busy ∷ Denied ∷ [])
+error_numbers = map code_number (NotSupported ∷ InvalidParameters ∷ NoMemory ∷ Busy ∷ Denied ∷ NoData ∷ [])
 
 -- FFA_VERSION's refusal, in w0
 abbrev pub no_version : ℕ
@@ -78,7 +79,7 @@ column_of (Fault fault) = column_of_fault fault
 
 -- where the count of a row and a column stands
 abbrev pub cell : ℕ → ℕ → ℕ
-cell row column = 6 * row + column
+cell row column = 7 * row + column
 
 -- one count grows by one, but for one that is the highest, and all others stay
 abbrev pub one_more : ℕ → List ℕ → List ℕ

@@ -6,7 +6,7 @@ use Rattle.ffa_model.specs.Bits.{is_set}
 use Rattle.ffa_model.specs.declared.endpoint.Endpoint.{Endpoint}
 use Rattle.ffa_model.specs.declared.function.TheConstants.{FFA_MEM_DONATE, FFA_MEM_RETRIEVE_REQ, FFA_MEM_SHARE, FFA_PARTITION_INFO_GET, FFA_RUN}
 use Rattle.ffa_model.specs.declared.refusal.Refusal.{Refusal}
-use Rattle.ffa_model.specs.declared.refusal.Refusal.TheVariants.{BuffersMissing, BuffersNeeded, NotTheSenders, ReceiversDiffer, TargetNotReady, GrantTooMuch, ZerosUnwritable, WorldsMixed, HandlesUsedUp, RequestsUnsent, RequestsUnreceived, MessagesUnsent, MessagesUnreceived}
+use Rattle.ffa_model.specs.declared.refusal.Refusal.TheVariants.{BuffersMissing, BuffersNeeded, NothingToTell, NotTheSenders, ReceiversDiffer, TargetNotReady, GrantTooMuch, ZerosUnwritable, WorldsMixed, HandlesUsedUp, RequestsUnsent, RequestsUnreceived, MessagesUnsent, MessagesUnreceived}
 use Rattle.play_transcript.specs.declared.unreached.Everyone.{Everyone}
 
 -- whether each of these endpoints has a property, which is a bit
@@ -26,6 +26,7 @@ is_unreached everyone function MessagesUnsent = everyone.takes_messages
 is_unreached everyone function MessagesUnreceived = everyone.takes_messages
 is_unreached everyone function ReceiversDiffer = everyone.serves_1_1
 is_unreached everyone function BuffersNeeded = everyone.serves_1_1
+is_unreached everyone function NothingToTell = everyone.serves_1_1
 is_unreached everyone function NotTheSenders = function == FFA_MEM_RETRIEVE_REQ && everyone.serves_1_1
 is_unreached everyone function BuffersMissing = function == FFA_PARTITION_INFO_GET && everyone.serves_1_2
 is_unreached everyone function other = false

@@ -20,7 +20,7 @@ const UNKNOWN: usize = CALLS.len();
 const ROWS: usize = CALLS.len() + 4;
 
 /// How many counts a row has: one of what was done, and one for each error or fault.
-const COLUMNS: usize = 6;
+const COLUMNS: usize = 7;
 
 /// The calls, what is no call, and the accesses.
 const CELLS: usize = COLUMNS * ROWS;
@@ -89,7 +89,7 @@ fn row_of_operation(op: &Op) -> usize
 
 fn column_of_error(code: ErrorCode) -> usize
     ensures column { result ≡ column_of_error code }
-    ensures few { result < 6 }
+    ensures few { result < 7 }
 {
     match code {
         ErrorCode::NotSupported => 1,
@@ -97,12 +97,13 @@ fn column_of_error(code: ErrorCode) -> usize
         ErrorCode::NoMemory => 3,
         ErrorCode::Busy => 4,
         ErrorCode::Denied => 5,
+        ErrorCode::NoData => 6,
     }
 }
 
 fn column_of_fault(fault: FaultKind) -> usize
     ensures column { result ≡ column_of_fault fault }
-    ensures few { result < 6 }
+    ensures few { result < 7 }
 {
     fault as usize
 }
@@ -110,7 +111,7 @@ fn column_of_fault(fault: FaultKind) -> usize
 // The column of an error, by the number that stands in w2.
 fn column_of_number(number: u64) -> usize
     ensures column { result ≡ option_map_or suc (position (λ other. number == other) error_numbers) 0 }
-    ensures few { result < 6 }
+    ensures few { result < 7 }
 {
     match number {
         0xFFFF_FFFF => 1,
@@ -118,6 +119,7 @@ fn column_of_number(number: u64) -> usize
         0xFFFF_FFFD => 3,
         0xFFFF_FFFC => 4,
         0xFFFF_FFFA => 5,
+        0xFFFF_FFF7 => 6,
         _ => 0,
     }
 }
@@ -126,7 +128,7 @@ fn column_of_number(number: u64) -> usize
 #[tactic(auto, unfolding(crate::specs::Counting::column_of_registers))]
 fn column_of_registers(x: &[u64; 8]) -> usize
     ensures column { result ≡ column_of_registers x.now }
-    ensures few { result < 6 }
+    ensures few { result < 7 }
 {
     if x[0] == u64::from(FFA_ERROR) {
         column_of_number(x[2])
@@ -139,7 +141,7 @@ fn column_of_registers(x: &[u64; 8]) -> usize
 
 fn column_of(outcome: &Outcome) -> usize
     ensures column { result ≡ column_of outcome.now }
-    ensures few { result < 6 }
+    ensures few { result < 7 }
 {
     match outcome {
         Outcome::Regs { x, .. } => column_of_registers(x),
@@ -150,7 +152,7 @@ fn column_of(outcome: &Outcome) -> usize
 
 fn cell(row: usize, column: usize) -> usize
     requires row { row < ROWS }
-    requires column { column < 6 }
+    requires column { column < 7 }
     ensures cell { result ≡ cell row column }
     ensures few { result < CELLS }
 {

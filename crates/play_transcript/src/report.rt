@@ -7,12 +7,13 @@ use ffa_model::{CALLS, ErrorCode, FaultKind, Refusal};
 use play_reasons::{checks, words};
 use std::fmt;
 
-const ERRORS: [ErrorCode; 5] = [
+const ERRORS: [ErrorCode; 6] = [
     ErrorCode::NotSupported,
     ErrorCode::InvalidParameters,
     ErrorCode::NoMemory,
     ErrorCode::Busy,
     ErrorCode::Denied,
+    ErrorCode::NoData,
 ];
 
 const FAULTS: [FaultKind; 5] = [
@@ -32,6 +33,7 @@ fn name_of_error(code: ErrorCode) -> &'static str {
         ErrorCode::NoMemory => "NO_MEMORY",
         ErrorCode::Busy => "BUSY",
         ErrorCode::Denied => "DENIED",
+        ErrorCode::NoData => "NO_DATA",
     }
 }
 

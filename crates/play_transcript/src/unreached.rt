@@ -126,7 +126,9 @@ pub fn why_unreached(everyone: Everyone, function: u32, refusal: Refusal) -> Opt
             everyone.takes_messages,
             "every endpoint may send and receive indirect messages",
         ),
-        Refusal::ReceiversDiffer | Refusal::BuffersNeeded => of_call(everyone.serves_1_1, LATER),
+        Refusal::ReceiversDiffer | Refusal::BuffersNeeded | Refusal::NothingToTell => {
+            of_call(everyone.serves_1_1, LATER)
+        }
         Refusal::NotTheSenders => {
             of_call(
                 function == FFA_MEM_RETRIEVE_REQ && everyone.serves_1_1,

@@ -1,9 +1,7 @@
 -- SPDX-License-Identifier: MIT OR Apache-2.0
 -- Calls by their names, which stand in the calls' one table, and their arguments, which stand in another: ARGUMENTS, with where
 -- the number of each stands in the registers (DEN0077A, 11 to 16).
-use Rattle.std.specs.Prelude.{ℕ, ◌-◌, ◌%◌, ◌^◌, ◌==◌, Bool, false, true, List, [], codes, drop, find, length, map, take, Option, None, Some, option_map, option_and_then, if◌then◌else◌, bytes_eq}
-use Rattle.std.specs.Option.{option_or}
-use Rattle.ffa_model.specs.declared.function.TheConstants.{FFA_NOTIFICATION_INFO_GET, FFA_NOTIFICATION_INFO_GET_64}
+use Rattle.std.specs.Prelude.{ℕ, ◌-◌, ◌%◌, ◌^◌, ◌==◌, Bool, false, true, List, codes, drop, find, length, map, take, Option, None, Some, option_map, option_and_then, if◌then◌else◌, bytes_eq}
 use Rattle.ffa_model.specs.Registers.{wide_of}
 use Rattle.ffa_model.specs.Rows.{Row, rows}
 use Rattle.play_words.specs.declared.arguments.TheConstants.{ARGUMENTS}
@@ -17,7 +15,7 @@ abbrev pub Argument : Type 0
 Argument = Name × Place × ℕ × Usual
 
 -- a call in one of its forms: the identifier of its 32-bit form, that of this form, whether it is the 64-bit one, the
--- registers that this reads whole, and the arguments
+-- registers that the 64-bit form reads or answers whole, and the arguments
 pub record Form : Type 0 where
   pub narrow : ℕ
   pub number : ℕ
@@ -70,26 +68,6 @@ abbrev pub in_either : Option Row → Option Row → Option Form
 in_either (Some row) front = in_form false row
 in_either None front = option_and_then in_wide_form front
 
--- the call of a name that any machine serves
-abbrev pub listed_named : List ℕ → Option Form
-listed_named name = in_either (row_named name) (option_and_then row_named (front_of name))
-
--- the call that only a machine of several processors serves, of which no register but x0 is read
-abbrev pub notice_in_form : Bool → Form
-notice_in_form is_wide = record {
-  narrow = FFA_NOTIFICATION_INFO_GET;
-  number = if is_wide then FFA_NOTIFICATION_INFO_GET_64 else FFA_NOTIFICATION_INFO_GET;
-  is_wide = is_wide;
-  whole = [];
-  arguments = [];
-}
-
-abbrev pub notice_named : List ℕ → Option Form
-notice_named name =
-    if bytes_eq name (codes "FFA_NOTIFICATION_INFO_GET") then Some (notice_in_form false)
-    else if bytes_eq name (codes "FFA_NOTIFICATION_INFO_GET_64") then Some (notice_in_form true)
-    else None
-
 -- the call of a name, behind which `_64` stands for the 64-bit form
 unfoldable pub function_named : List ℕ → Option Form
-function_named name = option_or (notice_named name) (listed_named name)
+function_named name = in_either (row_named name) (option_and_then row_named (front_of name))

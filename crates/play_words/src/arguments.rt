@@ -83,5 +83,5 @@ pub const ARGUMENTS: &[(u32, &[Argument])] = &rows![
         Bits Words 3 0xFFFF_FFFF_FFFF_FFFF Needed
     ];
     FFA_NOTIFICATION_GET: [Receiver Low 1 0xFFFF Needed, Context High 1 0xFFFF Zero, Flags Word 2 0xFFFF_FFFF Needed];
-    FFA_SPM_ID_GET FFA_MSG_SEND2: [];
+    FFA_SPM_ID_GET FFA_MSG_SEND2 FFA_NOTIFICATION_INFO_GET: [];
 ];

@@ -2,10 +2,10 @@
 //! Calls by their names.
 ghost use Rattle.std.specs.Prelude.{◌≡◌, option_map};
 ghost use Rattle.ffa_model.specs.Rows.{told};
-ghost use Rattle.play_words.specs.Calls.{arguments_of, form_of, front_of, function_named, in_form, listed_named, notice_in_form, notice_named, row_named};
+ghost use Rattle.play_words.specs.Calls.{arguments_of, form_of, front_of, function_named, in_form, row_named};
 
 use crate::arguments::{ARGUMENTS, Argument};
-use ffa_model::function::{FFA_NOTIFICATION_INFO_GET, FFA_NOTIFICATION_INFO_GET_64, WIDE};
+use ffa_model::function::WIDE;
 use ffa_model::{CALLS, CallRow};
 
 /// A call in one of its forms.
@@ -17,7 +17,7 @@ pub struct Function {
     pub number: u32,
     /// It is the 64-bit form.
     pub is_wide: bool,
-    /// The registers that the 64-bit form reads whole.
+    /// The registers that the 64-bit form reads or answers whole.
     pub whole: &'static [u32],
     pub arguments: &'static [Argument],
 }
@@ -26,47 +26,6 @@ pub struct Function {
 #[tactic(auto, unfolding(crate::specs::Calls::function_named))]
 pub(crate) fn function_named(name: &[u8]) -> Option<Function>
     ensures { option_map form_of result ≡ function_named name.now }
-{
-    match notice_named(name) {
-        Some(notice) => Some(notice),
-        None => listed_named(name),
-    }
-}
-
-// The call of a name that only a machine of several processors serves.
-fn notice_named(name: &[u8]) -> Option<Function>
-    ensures { option_map form_of result ≡ notice_named name.now }
-{
-    if name == b"FFA_NOTIFICATION_INFO_GET".as_slice() {
-        Some(notice_in_form(false))
-    } else if name == b"FFA_NOTIFICATION_INFO_GET_64".as_slice() {
-        Some(notice_in_form(true))
-    } else {
-        None
-    }
-}
-
-// That call, of which no register but x0 is read.
-fn notice_in_form(is_wide: bool) -> Function
-    ensures { form_of result ≡ notice_in_form is_wide }
-{
-    let number = if is_wide {
-        FFA_NOTIFICATION_INFO_GET_64
-    } else {
-        FFA_NOTIFICATION_INFO_GET
-    };
-    Function {
-        narrow: FFA_NOTIFICATION_INFO_GET,
-        number,
-        is_wide,
-        whole: &[],
-        arguments: &[],
-    }
-}
-
-// The call of a name that any machine serves.
-fn listed_named(name: &[u8]) -> Option<Function>
-    ensures { option_map form_of result ≡ listed_named name.now }
 {
     if let Some(row) = row_named(name) {
         return in_form(false, row);

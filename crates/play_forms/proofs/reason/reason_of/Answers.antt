@@ -1,7 +1,7 @@
 -- SPDX-License-Identifier: MIT OR Apache-2.0
 use Rattle.std.proofs.Common.{◌≡◌, None, Some, sym, ap, ◌∙◌, subst}
 use Rattle.ffa_playable.specs.Bench.{Bench, why_of}
-use Rattle.ffa_playable.specs.Standing.{detail_of}
+use Rattle.ffa_playable.specs.Standing.{detail}
 use Rattle.play_syntax.specs.Lines.{meant}
 use Rattle.play_forms.specs.Steps.{SaysWhy}
 use Rattle.play_forms.proofs.Whys.{says_none, says_nothing, says_unasked, says_why}
@@ -30,8 +30,8 @@ returns-in_ok-its-in-Operation g c =
     let its = c.in_ok-its-in-Operation.its in
     let reason = its.why in
     let is : Some reason ≡ why_of now c.in-Operation.op = c.in_ok-its-in-Operation.ensures.why ∙ ap (λ s. why_of s c.in-Operation.op) c.machine.ensures in
-    let detailed : its.detail ≡ detail_of now c.in-Operation.op reason =
-    c.in_ok-its-in-Operation.ensures.detail ∙ ap (λ (s : Bench). detail_of s c.in-Operation.op reason) c.machine.ensures in
+    let detailed : its.detail ≡ detail now.state c.in-Operation.op reason =
+    c.in_ok-its-in-Operation.ensures.detail ∙ ap (λ (s : Bench). detail s.state c.in-Operation.op reason) c.machine.ensures in
     let begins = c.ram_base-base.ensures.value ∙ ap (λ (s : Bench). s.state.ram_base) c.machine-in-Operation.ensures in
     subst (λ line. SaysWhy c.args.explain now (meant line) c.args.outcome (Some (record { base = c.ram_base-base.result; op = c.in-Operation.op; why = reason; detail = its.detail }))) (sym c.in-Operation.is)
     (says_why c.args.explain now c.in-Operation.op c.args.outcome c.if-not-explain.false (sym c.is_refused.ensures ∙ c.if-not-is_refused.false) c.ram_base-base.result reason its.detail begins is detailed)
