@@ -458,8 +458,8 @@ bool gorseplumb_cert_run(const struct gorseplumb_machine *machine, uint32_t page
  * endpoint, or no machine. */
 bool gorseplumb_npi_pending(const struct gorseplumb_machine *machine, uint16_t endpoint);
 
-/* Whether the normal world's schedule receiver interrupt is to be pending: a notification is pending of an endpoint that
- * no FFA_NOTIFICATION_INFO_GET has told it of since. False too: there is no machine. */
+/* Whether the normal world's schedule receiver interrupt is to be pending: its next FFA_NOTIFICATION_INFO_GET would name an
+ * endpoint. Always false on a machine of FF-A 1.1, which does not serve that call. False too: there is no machine. */
 bool gorseplumb_sri_pending(const struct gorseplumb_machine *machine);
 
 /* Copies the bytes of a page of RAM: true. False: there is no machine, or a machine without such a page, which the
@@ -546,7 +546,8 @@ enum gorseplumb_check {
     GORSEPLUMB_CHECK_STILL_HELD = 75, /* a receiver still holds the transaction */
     GORSEPLUMB_CHECK_WORLDS_MIXED = 76, /* secure pages are sent to the normal world, or together with non-secure pages */
     GORSEPLUMB_CHECK_RECEIVERS_DIFFER = 77, /* the endpoints in the descriptor are not the transaction's receivers */
-    GORSEPLUMB_CHECK_BUFFERS_NEEDED = 78 /* the call needs RX and TX, and the caller has none */
+    GORSEPLUMB_CHECK_BUFFERS_NEEDED = 78, /* the call needs RX and TX, and the caller has none */
+    GORSEPLUMB_CHECK_NOTHING_TO_TELL = 79 /* the normal world has been told of all pending notifications */
 };
 
 /* The conditions of a descriptor. Each comment says what is wrong if the bytes break it, in the words of

@@ -77,7 +77,7 @@ static const struct function functions[] = {
       CHECK(RECEIVER_IS_CALLER), CHECK(FLAGS_RESERVED), CHECK(BITS_NONE), CHECK(BITS_NOT_THE_CALLERS)}},
     {"FFA_NOTIFICATION_GET", 0x84000082, false, {CHECK(RECEIVER_IS_ANOTHER), CHECK(CONTEXT_UNKNOWN),
       CHECK(CLASSES_UNKNOWN), CHECK(BITMAPS_MISSING)}},
-    {"FFA_NOTIFICATION_INFO_GET", 0x84000083, true, {CHECK(FUNCTION_UNKNOWN)}},
+    {"FFA_NOTIFICATION_INFO_GET", 0x84000083, true, {CHECK(FUNCTION_UNKNOWN), CHECK(NOTHING_TO_TELL)}},
     {"FFA_SPM_ID_GET", 0x84000085, false, {0}},
     {"FFA_MSG_SEND2", 0x84000086, false, {CHECK(BUFFERS_MISSING), CHECK(FLAGS_RESERVED), CHECK(HEADER_RESERVED),
       CHECK(SENDER_IS_ANOTHER), CHECK(RECEIVER_UNKNOWN), CHECK(RECEIVER_IS_CALLER), CHECK(MESSAGE_IN_HEADER),
@@ -182,7 +182,8 @@ static const char check_names[] =
     "a receiver still holds the transaction\0"
     "secure pages are sent to the normal world, or together with non-secure pages\0"
     "the endpoints in the descriptor are not the transaction's receivers\0"
-    "the call needs RX and TX, and the caller has none\0";
+    "the call needs RX and TX, and the caller has none\0"
+    "the normal world has been told of all pending notifications\0";
 
 static const char flaw_names[] =
     "the descriptor is shorter than its header\0"

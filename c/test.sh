@@ -208,7 +208,7 @@ plays() {
         *:generated) cat "$to/generated" ;;
         *) printf '# a NUL: \0\n' && cat "$top/examples/${pair#*:}.trace" && echo audit ;;
         esac >"$to/trace"
-        "$player" run --processors 1 "$machine" "$to/trace" >"$to/expected"
+        "$player" run "$machine" "$to/trace" >"$to/expected"
         for kind in heap lent; do
             "$@" $kind "$machine" "$to/trace" >"$to/played"
             cmp "$to/expected" "$to/played" || { echo "$name: $kind: the outcomes of $pair differ from the program's" >&2; exit 1; }
@@ -229,20 +229,24 @@ turns() {
         "partitions resumed, and $(grep -c '^# refused: ' "$to/played") reasons: as the program prints them"
 }
 
-# Plays what the normal world is told of a notification of a partition that waits, once, and contexts that it names, by two processors and by
-# one alone: told NAME COMMAND..
+# Plays what the normal world is told of a notification, and contexts that it names, in each version of FF-A by two processors and by one:
+# told NAME COMMAND..
 told() {
-    local name=$1 machine=$top/tests/rows/machine.toml
+    local name=$1 machine=$top/tests/rows/machine.toml trace kind flags
     shift
     printf '%s\n' 'call 84000064 84000083' 'call 84000083' 'call 8400007D 0 2' 'call 8400006D 80010000' 'call 8400007F 8001 0 8' \
         'call 8400006B' 'call 84000081 8001 0 8' 'call C4000083' 'call 84000083' >"$to/alone"
     sed 's/^call 84000081/on 1\n&/' "$to/alone" >"$to/trace"
-    "$player" run --processors 2 "$machine" "$to/trace" >"$to/expected"
-    "$@" heap "$machine" "$to/trace" >"$to/played"
-    cmp "$to/expected" "$to/played" || { echo "$name: what two processors report of notifications differs from the program" >&2; exit 1; }
-    "$player" run --processors 1 "$machine" "$to/alone" >"$to/expected"
-    "$@" heap "$machine" "$to/alone" >"$to/played"
-    cmp "$to/expected" "$to/played" || { echo "$name: what one processor reports of notifications differs from the program" >&2; exit 1; }
+    while read -r trace kind flags; do
+        "$player" run $flags --explain "$machine" "$to/$trace" >"$to/expected"
+        "$@" $kind "$machine" "$to/$trace" >"$to/played"
+        cmp "$to/expected" "$to/played" || { echo "$name: what is told of notifications differs from the program's run $flags" >&2; exit 1; }
+    done <<'END'
+trace explain-1.2 --ffa 1.2 --processors 2
+alone explain-1.2 --ffa 1.2
+trace explain --processors 2
+alone explain
+END
     echo "$name: the library reports a notification to the normal world as the program does"
 }
 

@@ -33,8 +33,7 @@ void gorseplumb_settle(uint16_t endpoint, uint64_t address, uint64_t size) {
     }
 }
 
-static const uint8_t *text = (const uint8_t *)manifest_text;
-static const size_t text_size = sizeof manifest_text - 1;
+static struct gorseplumb_manifest manifest;
 
 /* A machine, and the pages that it stands in, where its RAM is lent. */
 struct board {
@@ -50,8 +49,8 @@ static void lend(struct board *board) {
 
 static void boot(struct board *board) {
     lend(board);
-    CHECK((board->pages != NULL ? gorseplumb_boot_lent(&board->machine, &board->list, text, text_size)
-                                : gorseplumb_boot(&board->machine, text, text_size)) == GORSEPLUMB_OK);
+    CHECK((board->pages != NULL ? gorseplumb_boot_lent_manifest(&board->machine, &board->list, &manifest)
+                                : gorseplumb_boot_manifest(&board->machine, &manifest)) == GORSEPLUMB_OK);
 }
 
 static enum gorseplumb_answer copy(struct board *board, const struct gorseplumb_machine *original) {
@@ -314,6 +313,8 @@ static void refusals(void) {
 }
 
 int main(void) {
+    CHECK(gorseplumb_read_manifest((const uint8_t *)manifest_text, sizeof manifest_text - 1, &manifest) == GORSEPLUMB_OK);
+    manifest.ffa = GORSEPLUMB_FFA_1_2; /* which tells the normal world of notifications */
     from_to(NULL, NULL);
     from_to(NULL, there);
     from_to(here, NULL);

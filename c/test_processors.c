@@ -163,12 +163,31 @@ static void a_chain(void) {
     CHECK(gorseplumb_runner(on(4)) == 0);
 }
 
-/* The normal world is told once of each endpoint with a notification pending, also of one that doesn't wait, and again where the
- * bit was got and is set again. It names execution contexts, of which there are as many as processors. */
+static const uint64_t info_get = 0x84000083, info_get_64 = 0xC4000083;
+static const uint64_t unsupported = (uint32_t)-1, invalid = (uint32_t)-2;
+
+/* On a machine of FF-A 1.1 nobody is told of notifications, and the normal world has one execution context. */
+static void no_notices(void) {
+    SEES(CALL_ON(1, FFA_FEATURES, info_get_64), 0, FFA_ERROR, 0, unsupported);
+    SEES(CALL(FFA_NOTIFICATION_BITMAP_CREATE, 0, 2), 0, FFA_ERROR, 0, invalid);
+    SEES(CALL(FFA_NOTIFICATION_BITMAP_CREATE, 0, 1), 0, FFA_SUCCESS);
+    SEES(CALL(FFA_NOTIFICATION_BIND, 0x80010000, 0, 8), 0, FFA_SUCCESS);
+    SEES(CALL_ON(0, FFA_RUN, 0x80010000), 0x8001, FFA_RUN, 0x80010000);
+    SEES(CALL(FFA_NOTIFICATION_SET, 0x80010000, 0, 8), 0x8001, FFA_SUCCESS);
+    SEES(CALL(info_get), 0x8001, FFA_ERROR, 0, unsupported);
+    CHECK(gorseplumb_npi_pending(&machine, 0) && !gorseplumb_sri_pending(&machine));
+    SEES(CALL_ON(1, info_get), 0, FFA_ERROR, 0, unsupported);
+    SEES(CALL(info_get_64), 0, FFA_ERROR, 0, unsupported);
+    SEES(CALL(FFA_NOTIFICATION_GET, 0x00010000, 7), 0, FFA_ERROR, 0, invalid);
+    SEES(CALL(FFA_NOTIFICATION_GET, 0, 7), 0, FFA_SUCCESS, 0, 8);
+    SEES(CALL_ON(0, FFA_MSG_WAIT), 0, FFA_MSG_WAIT, 0x80010000);
+}
+
+/* On one of FF-A 1.2 the normal world is told once of each endpoint with a notification pending, also of one that doesn't wait, and
+ * again if the bit was got and is set again. It has as many execution contexts as there may be processors. */
 static void notices(void) {
-    const uint64_t info_get = 0x84000083, info_get_64 = 0xC4000083, success_64 = 0xC4000061;
-    const uint64_t no_data = (uint32_t)-9, invalid = (uint32_t)GORSEPLUMB_ERROR_INVALID_PARAMETERS;
-    const uint64_t unsupported = (uint32_t)GORSEPLUMB_ERROR_NOT_SUPPORTED, denied = (uint32_t)GORSEPLUMB_ERROR_DENIED;
+    const uint64_t success_64 = 0xC4000061, no_data = (uint32_t)-9, denied = (uint32_t)-6;
+    struct gorseplumb_reason reason;
 
     SEES(CALL_ON(0, FFA_FEATURES, info_get), 0, FFA_SUCCESS);
     SEES(CALL_ON(0, FFA_FEATURES, info_get_64), 0, FFA_SUCCESS);
@@ -192,6 +211,8 @@ static void notices(void) {
     SEES(CALL_ON(2, info_get_64), 0, success_64, 0, 0x80, 0x8001);
     CHECK(!gorseplumb_sri_pending(&machine) && gorseplumb_npi_pending(&machine, 0x8001));
     SEES(CALL_ON(2, info_get_64), 0, FFA_ERROR, 0, no_data);
+    CHECK(gorseplumb_why_call(&machine, &GORSEPLUMB_REGISTERS(info_get_64), &reason));
+    CHECK(reason.check == GORSEPLUMB_CHECK_NOTHING_TO_TELL && reason.error == GORSEPLUMB_ERROR_NO_DATA && reason.about == 0);
     SEES(CALL_ON(1, info_get), 0, FFA_ERROR, 0, no_data);
     SEES(CALL_ON(1, FFA_NOTIFICATION_SET, 0x00008001, 0, 8), 0, FFA_SUCCESS);
     CHECK(!gorseplumb_sri_pending(&machine));
@@ -240,26 +261,32 @@ static void no_machine(void) {
     CHECK(gorseplumb_runner(&machine) == GORSEPLUMB_NOTHING && !gorseplumb_sri_pending(&machine));
 }
 
-static void scenes(void) {
+static void scenes(uint32_t ffa) {
     asked = 0;
     a_timer();
     two_partitions();
     a_lend();
     a_chain();
-    notices();
+    if (ffa == GORSEPLUMB_FFA_1_2) notices();
+    else no_notices();
     no_processor();
     CHECK(asked == 0); /* no operation and no interrupt takes memory */
 }
 
 int main(void) {
+    static struct gorseplumb_manifest manifest;
     no_machine();
-    CHECK(gorseplumb_boot(&machine, text, text_size) == GORSEPLUMB_OK);
-    scenes();
-    CHECK(gorseplumb_end_heap(&machine) == GORSEPLUMB_OK);
-    no_machine();
-    CHECK(gorseplumb_lend_all(&list, pages, 512) == GORSEPLUMB_OK && gorseplumb_boot_lent(&machine, &list, text, text_size) == GORSEPLUMB_OK);
-    scenes();
-    CHECK(gorseplumb_end(&machine, &list) == GORSEPLUMB_OK && gorseplumb_take_all_back(&list, pages, 512) && pieces == 0);
+    CHECK(gorseplumb_read_manifest(text, text_size, &manifest) == GORSEPLUMB_OK);
+    for (manifest.ffa = GORSEPLUMB_FFA_1_1; manifest.ffa <= GORSEPLUMB_FFA_1_2; manifest.ffa++) {
+        CHECK(gorseplumb_boot_manifest(&machine, &manifest) == GORSEPLUMB_OK);
+        scenes(manifest.ffa);
+        CHECK(gorseplumb_end_heap(&machine) == GORSEPLUMB_OK);
+        no_machine();
+        CHECK(gorseplumb_lend_all(&list, pages, 512) == GORSEPLUMB_OK);
+        CHECK(gorseplumb_boot_lent_manifest(&machine, &list, &manifest) == GORSEPLUMB_OK);
+        scenes(manifest.ffa);
+        CHECK(gorseplumb_end(&machine, &list) == GORSEPLUMB_OK && gorseplumb_take_all_back(&list, pages, 512) && pieces == 0);
+    }
     printf("ok: interrupts and processors, on the heap's RAM and on lent pages\n");
     return 0;
 }

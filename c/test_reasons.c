@@ -325,7 +325,7 @@ static void names(void) {
     CHECK(is(gorseplumb_fault_name(GORSEPLUMB_FAULT_OUTSIDE_RAM), "outside-ram"));
     CHECK(is(gorseplumb_answer_name(GORSEPLUMB_MANIFEST_RAM_BASE), "M6 RamBase"));
     CHECK(is(gorseplumb_answer_name(GORSEPLUMB_MANIFEST_VERSION), "M14 Version"));
-    for (uint32_t check = 1; check <= GORSEPLUMB_CHECK_WORLDS_MIXED; check++)
+    for (uint32_t check = 1; check <= GORSEPLUMB_CHECK_NOTHING_TO_TELL; check++)
         CHECK(*gorseplumb_check_name(check) != '\0');
     for (uint32_t flaw = 1; flaw <= GORSEPLUMB_FLAW_RELINQUISH_ENDPOINT_COUNT; flaw++)
         CHECK(*gorseplumb_flaw_name(flaw) != '\0');
@@ -338,7 +338,7 @@ static void names(void) {
               is(gorseplumb_fault_name(none[i]), ""));
         CHECK(none[i] == 0 || is(gorseplumb_answer_name(none[i]), ""));
     }
-    CHECK(is(gorseplumb_check_name(GORSEPLUMB_CHECK_BUFFERS_NEEDED + 1), ""));
+    CHECK(is(gorseplumb_check_name(GORSEPLUMB_CHECK_NOTHING_TO_TELL + 1), ""));
     CHECK(is(gorseplumb_answer_name(GORSEPLUMB_MANIFEST_TABLES_OUTSIDE + 1), ""));
     CHECK(is(gorseplumb_fault_name(GORSEPLUMB_FAULT_OUTSIDE_RAM + 1), ""));
     CHECK(is(gorseplumb_flaw_name(GORSEPLUMB_FLAW_RELINQUISH_ENDPOINT_COUNT + 1), ""));
@@ -351,6 +351,7 @@ static void check_numbers(void) {
     CHECK(gorseplumb_check_number(FFA_RXTX_MAP, GORSEPLUMB_CHECK_BUFFER_PAGE_COUNT) == 2);
     CHECK(gorseplumb_check_number(FFA_NOTIFICATION_SET, GORSEPLUMB_CHECK_BITS_NOT_THE_CALLERS) == 6);
     CHECK(gorseplumb_check_number(FFA_MSG_SEND2, GORSEPLUMB_CHECK_RECEIVER_RX_SMALL) == 14);
+    CHECK(gorseplumb_check_number(FFA_NOTIFICATION_INFO_GET | WITH_64_BITS, GORSEPLUMB_CHECK_NOTHING_TO_TELL) == 2);
     CHECK(gorseplumb_check_number(0x84000099, GORSEPLUMB_CHECK_FUNCTION_UNKNOWN) == 1);
     CHECK(gorseplumb_check_number(FFA_RUN | WITH_64_BITS, GORSEPLUMB_CHECK_FUNCTION_UNKNOWN) == 1);
     CHECK(gorseplumb_check_number(FFA_ID_GET, GORSEPLUMB_CHECK_FUNCTION_UNKNOWN) == 0);

@@ -12,7 +12,7 @@ from .checks import Check, Flaw
 from .codes import MANAGER, NORMAL_WORLD, PAGE_SIZE
 from .codes import About, Cause, ErrorCode, Fault, Ffa, Form, Function, GrantKind, HintKind, Kind, Obstacle
 from .codes import Properties, Right, RunState
-from .descriptors import DataAccess, InstructionAccess, Offer, PageRange, Receiver
+from .descriptors import DataAccess, InstructionAccess, Offer, PageRange, ReadBack, Receiver
 from .descriptors import Relinquish, Retrieve, RetrieveResponse
 from .errors import (
     AccessFault,
@@ -137,6 +137,7 @@ __all__ = [
     "Properties",
     "Ram",
     "RamLent",
+    "ReadBack",
     "Reason",
     "Receiver",
     "Region",

@@ -108,6 +108,7 @@ class Check(_Worded):
     WORLDS_MIXED = 76, "secure pages are sent to the normal world, or together with non-secure pages"
     RECEIVERS_DIFFER = 77, "the endpoints in the descriptor are not the transaction's receivers"
     BUFFERS_NEEDED = 78, "the call needs RX and TX, and the caller has none"
+    NOTHING_TO_TELL = 79, "the normal world has been told of all pending notifications"
 
 
 class Flaw(_Worded):

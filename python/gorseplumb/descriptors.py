@@ -27,6 +27,7 @@ _ACCESS = struct.Struct("<HBBI")
 _COMPOSITE = struct.Struct("<IIQ")
 _RANGE = struct.Struct("<QII")
 _RELINQUISH = struct.Struct("<QIIH")
+_READ_BACK = struct.Struct("<8xQ")
 
 
 class DataAccess(Named):
@@ -187,14 +188,36 @@ class Retrieve:
 
 
 @dataclass(frozen=True, slots=True)
+class ReadBack:
+    """What the normal world asks for by FFA_MEM_RETRIEVE_REQ as a hypervisor: to read back a transaction that it sent. Only a
+    machine that serves FF-A 1.2 lets it."""
+
+    handle: int
+
+    __repr__ = by_fields
+
+    def __post_init__(self) -> None:
+        check_numbers(self, "handle")
+
+    def to_bytes(self, form: Form = Form.FFA_1_1) -> bytes:
+        """The descriptor: a header, in which only the handle is not 0."""
+        return _pack(_READ_BACK, self.handle).ljust(header_size(form), b"\0")
+
+    def operations(self, tx: int, form: Form = Form.FFA_1_1) -> list[Operation]:
+        """The stores that write it to TX, and its call."""
+        return _stores_and_call(tx, self.to_bytes(form), Function.FFA_MEM_RETRIEVE_REQ)
+
+
+@dataclass(frozen=True, slots=True)
 class RetrieveResponse:
-    """What FFA_MEM_RETRIEVE_RESP leaves in RX: `receiver` has the right that it holds from now on. Only of a machine that
-    serves FF-A 1.2 are pages told to be `non_secure`, and not in the compact form."""
+    """What FFA_MEM_RETRIEVE_RESP leaves in RX: `receivers` is who has retrieved, with the right that it holds from now on. To a
+    `ReadBack` it is each receiver, with the right that the sender granted. Only of a machine that serves FF-A 1.2 are
+    pages told to be `non_secure`, and not in the compact form."""
 
     kind: Kind
     sender: int
     handle: int
-    receiver: Receiver
+    receivers: tuple[Receiver, ...]
     ranges: tuple[PageRange, ...]
     zeroed: bool = False
     tag: int = 0
@@ -205,17 +228,17 @@ class RetrieveResponse:
     def __post_init__(self) -> None:
         check_member_or_number("kind", self.kind, Kind)
         check_numbers(self, "sender", "handle", "tag")
-        _check_receiver(self.receiver)
+        check_each("receivers", self.receivers, Receiver)
         check_each("ranges", self.ranges, PageRange)
 
     def to_bytes(self, form: Form = Form.FFA_1_1) -> bytes:
         """The response, as the machine writes it."""
-        composite = header_size(form) + access_size(form)
+        composite = header_size(form) + access_size(form) * len(self.receivers)
         attributes = NORMAL_MEMORY | (NON_SECURE if self.non_secure and form is not Form.COMPACT else 0)
         flags = self.kind << 3 | int(self.zeroed)
         return (
-            _pack_header(form, self.sender, attributes, flags, self.handle, self.tag, 1)
-            + _pack_access(form, self.receiver, composite)
+            _pack_header(form, self.sender, attributes, flags, self.handle, self.tag, len(self.receivers))
+            + b"".join(_pack_access(form, it, composite) for it in self.receivers)
             + _pack_composite(self.ranges)
         )
 
@@ -223,19 +246,21 @@ class RetrieveResponse:
     def from_bytes(cls, data: bytes, form: Form = Form.FFA_1_1) -> RetrieveResponse:
         """What the bytes of RX say, of which those behind the response may be anything."""
         header = _read_header(data, form)
-        _require(header.entries == 1, Flaw.RETRIEVE_ACCESS_COUNT)
-        access = _read_access(data, header)
-        _require(access.permissions & 3 != 3, Flaw.RETRIEVE_DATA_PERMISSION)
-        _require(access.permissions >> 2 & 3 != 3, Flaw.RETRIEVE_INSTRUCTION_PERMISSION)
+        _require(1 <= header.entries <= MOST_RECEIVERS, Flaw.RETRIEVE_ACCESS_COUNT)
+        named = [_read_access(data, header, index) for index in range(header.entries)]
+        for index, access in enumerate(named):
+            _require(access.permissions & 3 != 3, Flaw.RETRIEVE_DATA_PERMISSION, index)
+            _require(access.permissions >> 2 & 3 != 3, Flaw.RETRIEVE_INSTRUCTION_PERMISSION, index)
         _require(header.flags >> 3 & 3 != 0, Flaw.RETRIEVE_FLAGS)
-        count = _read_range_count(data, header, access.composite)
+        composite = named[0].composite
+        count = _read_range_count(data, header, composite)
         ranges = tuple(
-            PageRange(*_RANGE.unpack_from(data, access.composite + ENTRY_SIZE * (1 + index))[:2])
-            for index in range(count)
+            PageRange(*_RANGE.unpack_from(data, composite + ENTRY_SIZE * (1 + index))[:2]) for index in range(count)
         )
+        receivers = tuple(it.receiver for it in named)
         kind, zeroed = Kind(header.flags >> 3 & 3), bool(header.flags & 1)
         non_secure = form is not Form.COMPACT and bool(header.attributes & NON_SECURE)
-        return cls(kind, header.sender, header.handle, access.receiver, ranges, zeroed, header.tag, non_secure)
+        return cls(kind, header.sender, header.handle, receivers, ranges, zeroed, header.tag, non_secure)
 
 
 @dataclass(frozen=True, slots=True)

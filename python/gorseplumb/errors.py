@@ -243,7 +243,7 @@ class Aborted(CallRefused):
 
 
 class NoData(CallRefused):
-    """No endpoint has a notification to report. Only FFA_NOTIFICATION_INFO_GET is answered so."""
+    """The normal world has been told of all pending notifications. Only FFA_NOTIFICATION_INFO_GET is answered so."""
 
 
 _FAULTS: dict[Fault, type[AccessFault]] = {

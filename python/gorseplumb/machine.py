@@ -12,7 +12,7 @@ from . import _library as c
 from ._library import library
 from .batch import Batch, Outcomes
 from .codes import Answer, Fault, Form, Function
-from .descriptors import Offer, Relinquish, Retrieve, stores
+from .descriptors import Offer, ReadBack, Relinquish, Retrieve, stores
 from .errors import LibraryError, access_fault, call_refused
 from .hexadecimal import shown
 from .manifest import Manifest, checked_boot, text_of
@@ -330,13 +330,13 @@ class Machine(Questions):
         return answer
 
     def send(
-        self, request: Offer | Retrieve | Relinquish | IndirectMessage, tx: int, form: Form | None = None
+        self, request: Offer | Retrieve | ReadBack | Relinquish | IndirectMessage, tx: int, form: Form | None = None
     ) -> Registers:
         """Writes a descriptor or a message to TX of the runner, in its form, and makes its call. Where a store or the
         call is refused, that is raised. The form is that of the manifest; give another one if the runner has asked for it
         by FFA_VERSION."""
         if not hasattr(request, "operations"):
-            refuse("a request", "an Offer, a Retrieve, a Relinquish or an IndirectMessage", request)
+            refuse("a request", "an Offer, a Retrieve, a ReadBack, a Relinquish or an IndirectMessage", request)
         check_number("tx", tx)
         if form is not None:
             check_member("form", form, Form)

@@ -121,8 +121,8 @@ class Questions:
         return bool(library.npi_pending(self._raw, endpoint))
 
     def sri_pending(self) -> bool:
-        """Whether the normal world's schedule receiver interrupt is to be pending: a notification is pending of an endpoint that no
-        FFA_NOTIFICATION_INFO_GET has told it of since."""
+        """Whether the normal world's schedule receiver interrupt is to be pending: its next FFA_NOTIFICATION_INFO_GET would name
+        an endpoint. Always False on a machine of `Ffa.V1_1`, which does not serve that call."""
         self._check_alive()
         return bool(library.sri_pending(self._raw))
 

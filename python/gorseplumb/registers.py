@@ -128,6 +128,7 @@ _READ_WHOLE: Mapping[Function, frozenset[int]] = {
     Function.FFA_MEM_LEND_64: frozenset({3}),
     Function.FFA_MEM_SHARE_64: frozenset({3}),
     Function.FFA_MEM_RETRIEVE_REQ_64: frozenset({3}),
+    Function.FFA_NOTIFICATION_INFO_GET_64: frozenset({2, 3, 4, 5, 6, 7}),
 }
 
 
@@ -151,7 +152,7 @@ class NamedRegisters:
 
 
 def is_read_whole(x0: int, register: int) -> bool:
-    """Whether a call reads all 64 bits of a register."""
+    """Whether a call's 64-bit form reads all 64 bits of a register, or answers in all of them."""
     function = Function.of(x0)
     return function is not None and register in _READ_WHOLE.get(function, ())
 

@@ -35,7 +35,7 @@ def test_gives_the_outcomes_of_a_generated_trace(program: Program) -> None:
     batch = Batch(it for it in commands if isinstance(it, (Call, Load, Store, Fetch)))
     plain = b"".join(f"{it}\n".encode() for it in batch.operations)
     with Machine(MANIFEST) as machine:
-        assert [str(it) for it in machine.run(batch)] == program.lines("run", "--processors", 1, MANIFEST, "-", text=plain)
+        assert [str(it) for it in machine.run(batch)] == program.lines("run", MANIFEST, "-", text=plain)
 
 
 def test_is_recorded_and_refused_as_one_by_one() -> None:

@@ -4,14 +4,15 @@ from __future__ import annotations
 
 import copy
 import gc
+from dataclasses import replace
 from typing import Callable
 
 import pytest
 from conftest import EXAMPLES
 from test_machine import MANIFEST, RAM
 
-from gorseplumb import Act, Call, Data, Fetch, Function, Load, Machine, MachineEnded, NotRecordable, Operation, Outcome, Ram
-from gorseplumb import RamLent, Store, Watcher, WrongRamSize
+from gorseplumb import Act, Call, Data, Fetch, Ffa, Function, Load, Machine, MachineEnded, Manifest, NotRecordable, Operation
+from gorseplumb import Outcome, Ram, RamLent, Store, Watcher, WrongRamSize
 from gorseplumb.trace import parse
 
 COPIES: list[Callable[[Machine], Machine]] = [
@@ -68,8 +69,8 @@ def test_have_their_own(copied: Callable[[Machine], Machine]) -> None:
         copied(machine)
 
 
-def test_keep_what_the_normal_world_was_told(partitions: Machine) -> None:
-    with Machine(EXAMPLES / "machine.toml") as machine:
+def test_keep_what_the_normal_world_was_told() -> None:
+    with Machine(replace(Manifest.read(EXAMPLES / "machine.toml"), ffa=Ffa.V1_2)) as machine:
         machine.call(Function.FFA_RUN, 0x80010000)
         machine.call(Function.FFA_NOTIFICATION_BIND, 0x00008001, 0, 8)
         machine.call(Function.FFA_MSG_WAIT)

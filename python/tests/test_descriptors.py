@@ -9,7 +9,7 @@ from typing import Any, Callable
 import pytest
 
 from gorseplumb import DataAccess, Ffa, Flaw, Form, IndirectMessage, InstructionAccess, Kind, MalformedDescriptor, Offer
-from gorseplumb import PageRange, PartitionInfo, Properties, Receiver, Relinquish, Retrieve, RetrieveResponse, Right
+from gorseplumb import PageRange, PartitionInfo, Properties, ReadBack, Receiver, Relinquish, Retrieve, RetrieveResponse, Right
 from gorseplumb import Store, read_partitions
 
 FORMS = list(Form)
@@ -92,7 +92,8 @@ def test_reads_what_it_writes(offer: Offer, form: Form) -> None:
 def test_reads_retrieves_and_responses(form: Form) -> None:
     asked = Retrieve(1, 2, Receiver(3, RW, InstructionAccess.X), tag=4, kind=Kind.DONATE)
     assert Retrieve.from_bytes(asked.to_bytes(form), 3, form) == asked
-    answered = RetrieveResponse(Kind.LEND, 1, 2, Receiver(3, RW, InstructionAccess.NX), (PageRange(4096, 1),), True, 4)
+    holds = Receiver(3, RW, InstructionAccess.NX)
+    answered = RetrieveResponse(Kind.LEND, 1, 2, (holds,), (PageRange(4096, 1),), True, 4)
     data = answered.to_bytes(form)
     assert len(data) == {Form.FFA_1_1: 80, Form.COMPACT: 64, Form.FFA_1_2: 96}[form] + 16
     assert RetrieveResponse.from_bytes(data + b"rest", form) == answered and data[2] == 0x2F
@@ -287,6 +288,25 @@ def test_a_retrieve_of_ffa_1_2_may_name_other_receivers() -> None:
     assert Retrieve.from_bytes(bytes(alone), 0x8002, ffa=Ffa.V1_2) == asked
 
 
+@pytest.mark.parametrize("form, access", [(Form.COMPACT, 32), (Form.FFA_1_1, 48), (Form.FFA_1_2, 48)])
+def test_a_transaction_is_read_back_with_all_receivers(form: Form, access: int) -> None:
+    asked = ReadBack(0x0000000000000001).to_bytes(form)
+    assert len(asked) == access and words(asked) == {8: 1}
+    held = TO_TWO.receivers
+    answered = RetrieveResponse(Kind.SHARE, 0, 1, held, TO_TWO.ranges, tag=0x77, non_secure=form is not Form.COMPACT)
+    data = answered.to_bytes(form)
+    assert RetrieveResponse.from_bytes(data + b"rest", form) == answered
+    for change, flaw, index in ((b"\3", Flaw.RETRIEVE_DATA_PERMISSION, 1), (b"\x0C", Flaw.RETRIEVE_INSTRUCTION_PERMISSION, 1)):
+        at = access + (32 if form is Form.FFA_1_2 else 16) + 2
+        with pytest.raises(MalformedDescriptor) as wrong:
+            RetrieveResponse.from_bytes(data[:at] + change + data[at + 1 :], form)
+        assert (wrong.value.flaw, wrong.value.index) == (flaw, index)
+    for count in (0, 5):
+        with pytest.raises(MalformedDescriptor) as wrong:
+            RetrieveResponse.from_bytes(data[:28] + bytes([count]) + data[29:] + bytes(64), form)
+        assert wrong.value.flaw is Flaw.RETRIEVE_ACCESS_COUNT
+
+
 @pytest.mark.parametrize("data, flaw", [(b"\0" * 17, "SHORT"), (b"\2", "FLAGS"), (b"\1", "ENDPOINT_COUNT")])
 def test_names_the_first_condition_that_a_relinquish_breaks(data: bytes, flaw: str) -> None:
     whole = data if len(data) == 17 else b"\0" * 8 + data + b"\0" * 3 + b"\2\0\0\0" + b"\2\x80"
@@ -357,7 +377,8 @@ def test_refuses_what_is_no_part_of_a_descriptor() -> None:
             lambda: Retrieve(1, 2, Receiver(3), kind=untyped("lend")),
             "kind is a Kind, and not the str 'lend': give Kind.LEND",
         ),
-        (lambda: RetrieveResponse(Kind.LEND, 1, 2, untyped(None), ()), "receiver is a Receiver, and not None"),
+        (lambda: RetrieveResponse(Kind.LEND, 1, 2, untyped((3,)), ()), "receivers[0] is a Receiver, and not the int 3"),
+        (lambda: ReadBack(untyped("1")), "handle is a number, and not the str '1': give 0x1"),
         (lambda: Receiver(untyped("8002")), "endpoint is a number, and not the str '8002': give 0x8002"),
         (lambda: PageRange(untyped("40028000"), 1), "address is a number, and not the str '40028000': give 0x40028000"),
         (lambda: Offer(Kind.LEND, untyped(None), (), ()), "sender is a number, and not None"),

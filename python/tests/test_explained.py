@@ -37,13 +37,7 @@ def rows() -> Iterator[Row]:
             yield Row(manifest, ffa, [*before, *trace.split("/")], told)
 
 
-# A machine of the library has several processors. So it serves one more call, and notifications of several contexts.
-OTHERWISE = (
-    "FFA_NOTIFICATION_INFO_GET check 1: ",
-    "FFA_NOTIFICATION_BITMAP_CREATE check 3: ",
-    "FFA_NOTIFICATION_GET check 2: ",
-)
-ROWS = [row for row in rows() if not row.told.startswith(OTHERWISE)]
+ROWS = list(rows())
 
 
 def booted(row: Row) -> Machine:

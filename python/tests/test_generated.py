@@ -28,7 +28,7 @@ def operations(program: Program) -> Played:
     assert lines.count(b"\n") == LINES
     trace = re.sub(rb"^(?:show|audit|#.*)\n", b"", lines, flags=re.M)
     assert trace.count(b"\n") >= 100_000
-    return Played(trace, program("run", "--processors", 1, MANIFEST, "-", text=trace).stdout)
+    return Played(trace, program("run", MANIFEST, "-", text=trace).stdout)
 
 
 @pytest.mark.parametrize("blocks", [0, 2])
@@ -41,7 +41,7 @@ def test_operations_give_the_programs_bytes(operations: Played, blocks: int) -> 
 def test_lines_give_the_programs_bytes(program: Program, name: str) -> None:
     trace = program("generate", "--seed", 11, "--lines", LINES, TOP / name).stdout
     with Machine(TOP / name) as machine:
-        assert text_of(machine, trace) == program("run", "--processors", 1, TOP / name, "-", text=trace).stdout
+        assert text_of(machine, trace) == program("run", TOP / name, "-", text=trace).stdout
 
 
 def text_of(machine: Machine, trace: bytes) -> bytes:

@@ -16,7 +16,7 @@ import gorseplumb
 from gorseplumb import About, Call, Cell, Change, Check, Data, DataAccess, Done, Fault, Faulted, Fetch, Function
 from gorseplumb import Grant, GrantKind, Hindrance, Hint, HintKind, IndirectMessage, InstructionAccess, Kind, Load, Machine
 from gorseplumb import Manifest, NamedRegisters, Obstacle, Offer, PageRange, PartitionInfo, Properties, Reason, Receiver, Region
-from gorseplumb import Registers, Relinquish, Retrieve, RetrieveResponse, Right, Run, Store, Subject, decode
+from gorseplumb import ReadBack, Registers, Relinquish, Retrieve, RetrieveResponse, Right, Run, Store, Subject, decode
 from gorseplumb.hexadecimal import shown
 
 HANDLE = 0x0000800100000001
@@ -83,7 +83,8 @@ def test_what_is_shown_makes_the_same_value() -> None:
     values = [
         Offer(Kind.LEND, 0x8001, (RECEIVER,), RANGES, True, 1 << 63),
         Retrieve(0x8001, HANDLE, RECEIVER, 11),
-        RetrieveResponse(Kind.SHARE, 0x8001, HANDLE, RECEIVER, RANGES),
+        RetrieveResponse(Kind.SHARE, 0x8001, HANDLE, (RECEIVER,), RANGES),
+        ReadBack(HANDLE),
         Relinquish(HANDLE, 0x8002),
         PartitionInfo(0x8001, Properties(1), uuid.UUID(int=7)),
         decode((0x8400006D, 0x80010000, 0, 0, 0, 0, 0, 0)),

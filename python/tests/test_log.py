@@ -98,7 +98,7 @@ def test_reads_and_plays_ftrace() -> None:
         [
             f"line 10: {FTRACE.splitlines()[9].strip()}",
             "expected: regs 0000 0000000084000060 0000000000000000 00000000FFFFFFFE" + 5 * " 0000000000000000",
-            "found:    regs 0000 0000000084000060 0000000000000000 00000000FFFFFFF7" + 5 * " 0000000000000000",
+            "found:    regs 0000 0000000084000060 0000000000000000 00000000FFFFFFFF" + 5 * " 0000000000000000",
             "differ:   x2",
         ]
     )

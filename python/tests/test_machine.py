@@ -111,7 +111,7 @@ def test_tells_of_changes_and_notifications(partitions: Machine) -> None:
     assert told.function is Function.FFA_MEM_RETRIEVE_RESP
     response = RetrieveResponse.from_bytes(partitions.read(0x40207000, told.x[1]))
     held = Receiver(0x8002, DataAccess.RW, InstructionAccess.NX)
-    assert response == RetrieveResponse(Kind.LEND, 0x8001, answer.handle, held, ranges)
+    assert response == RetrieveResponse(Kind.LEND, 0x8001, answer.handle, (held,), ranges)
     assert response.to_bytes() == partitions.read(0x40207000, told.x[1])
     with pytest.raises(Busy, match="8002: FFA_PARTITION_INFO_GET: BUSY"):
         partitions.do(Function.FFA_PARTITION_INFO_GET)
@@ -197,7 +197,7 @@ def test_says_what_is_no_number_and_no_operation() -> None:
             ),
             (
                 lambda: machine.send(run, RAM),
-                "a request is an Offer, a Retrieve, a Relinquish or an IndirectMessage, and not Function.FFA_RUN",
+                "a request is an Offer, a Retrieve, a ReadBack, a Relinquish or an IndirectMessage, and not Function.FFA_RUN",
             ),
             (
                 lambda: machine.run(load),

@@ -2,13 +2,14 @@
 """Interrupts, and a machine that several processors run."""
 from __future__ import annotations
 
+from dataclasses import replace
 from pathlib import Path
 
 import pytest
 from conftest import EXAMPLES, Program
 
-from gorseplumb import Act, Busy, Call, Data, Done, Fault, Faulted, Fetch, Function, Interrupt, Load, Machine
-from gorseplumb import MachineEnded, NoSuchProcessor, Outcome, Registers, Resumed, Store, Watcher, jsonlines, play
+from gorseplumb import Act, Busy, Call, Check, Data, Done, Fault, Faulted, Fetch, Ffa, Function, Interrupt, Load, Machine
+from gorseplumb import MachineEnded, Manifest, NoData, NoSuchProcessor, Outcome, Registers, Resumed, Store, Watcher, jsonlines, play
 from gorseplumb.log import play as play_log
 from gorseplumb.log import read_log
 from gorseplumb.session import Session
@@ -62,24 +63,44 @@ def test_each_processor_runs_a_partition(partitions: Machine) -> None:
     assert list(partitions.run([Call(RUN_8002)])) == [Resumed(0x8002)]
 
 
-def test_the_normal_world_is_told_once_whose_notifications_are_pending(partitions: Machine) -> None:
-    info_get, info_get_64 = Function.FFA_NOTIFICATION_INFO_GET, Function.FFA_NOTIFICATION_INFO_GET_64
+INFO_GET, INFO_GET_64 = Function.FFA_NOTIFICATION_INFO_GET, Function.FFA_NOTIFICATION_INFO_GET_64
+
+
+def test_the_normal_world_is_told_once_whose_notifications_are_pending() -> None:
     success_64 = Function.FFA_SUCCESS_64
-    assert (info_get, info_get_64, success_64) == (0x84000083, 0xC4000083, 0xC4000061)
+    assert (INFO_GET, INFO_GET_64, success_64) == (0x84000083, 0xC4000083, 0xC4000061)
     no_data = told(0, Function.FFA_ERROR, 0, 0xFFFFFFF7)
     done = told(0, Function.FFA_SUCCESS)
-    assert on(partitions, 2).call(Function.FFA_FEATURES, info_get_64) == done
-    assert partitions.call(Function.FFA_NOTIFICATION_BITMAP_CREATE, 0, 4) == done
-    assert partitions.call(info_get) == no_data and not partitions.sri_pending()
-    assert partitions.call(Function.FFA_NOTIFICATION_BIND, 0x80010000, 0, 1) == done
+    with Machine(replace(Manifest.read(EXAMPLES / "partitions.toml"), ffa=Ffa.V1_2)) as machine:
+        assert on(machine, 2).call(Function.FFA_FEATURES, INFO_GET_64) == done
+        assert machine.call(Function.FFA_NOTIFICATION_BITMAP_CREATE, 0, 4) == done
+        assert machine.call(INFO_GET) == no_data and not machine.sri_pending()
+        assert machine.call(Function.FFA_NOTIFICATION_BIND, 0x80010000, 0, 1) == done
+        on(machine, 0).call(*RUN_8001)
+        machine.call(Function.FFA_NOTIFICATION_SET, 0x80010000, 0, 1)
+        assert machine.sri_pending()
+        assert on(machine, 2).call(INFO_GET_64) == told(0, success_64, 0, 0x80)
+        assert machine.call(INFO_GET_64) == no_data and not machine.sri_pending()
+        with pytest.raises(NoData, match="check 2: the normal world has been told of all pending notifications$") as nothing:
+            machine.do(INFO_GET)
+        assert nothing.value.reason is not None and nothing.value.reason.check is Check.NOTHING_TO_TELL
+        assert machine.call(Function.FFA_NOTIFICATION_GET, 0x00020000, 7) == told(0, Function.FFA_SUCCESS, 0, 1)
+        on(machine, 0).call(Function.FFA_NOTIFICATION_SET, 0x80010000, 0, 1)
+        assert on(machine, 2).call(INFO_GET) == told(0, Function.FFA_SUCCESS, 0, 0x80)
+
+
+def test_on_a_machine_of_ffa_1_1_nobody_is_told(partitions: Machine) -> None:
+    unsupported = told(0, Function.FFA_ERROR, 0, 0xFFFFFFFF)
+    invalid = told(0, Function.FFA_ERROR, 0, 0xFFFFFFFE)
+    assert on(partitions, 2).call(Function.FFA_FEATURES, INFO_GET) == unsupported
+    assert partitions.call(Function.FFA_NOTIFICATION_BITMAP_CREATE, 0, 2) == invalid
+    partitions.do(Function.FFA_NOTIFICATION_BITMAP_CREATE, endpoint=0, contexts=1)
+    partitions.do(Function.FFA_NOTIFICATION_BIND, sender=0x8001, receiver=0, bits=1)
     on(partitions, 0).call(*RUN_8001)
-    partitions.call(Function.FFA_NOTIFICATION_SET, 0x80010000, 0, 1)
-    assert partitions.sri_pending()
-    assert on(partitions, 2).call(info_get_64) == told(0, success_64, 0, 0x80)
-    assert partitions.call(info_get_64) == no_data and not partitions.sri_pending()
-    assert partitions.call(Function.FFA_NOTIFICATION_GET, 0x00020000, 7) == told(0, Function.FFA_SUCCESS, 0, 1)
-    on(partitions, 0).call(Function.FFA_NOTIFICATION_SET, 0x80010000, 0, 1)
-    assert on(partitions, 2).call(info_get) == told(0, Function.FFA_SUCCESS, 0, 0x80)
+    partitions.do(Function.FFA_NOTIFICATION_SET, sender=0x8001, receiver=0, bits=1)
+    assert partitions.npi_pending(0) and not partitions.sri_pending()
+    assert on(partitions, 2).call(INFO_GET_64) == unsupported
+    assert partitions.call(Function.FFA_NOTIFICATION_GET, 0x00010000, 7) == invalid
 
 
 def test_there_are_eight_processors(partitions: Machine) -> None:

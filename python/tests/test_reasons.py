@@ -98,7 +98,7 @@ def test_prints_what_the_program_explains(program: Program) -> None:
     for manifest in (MANIFEST, EXAMPLES / "machine.toml"):
         lines = program("generate", "--seed", 5, "--lines", 20_000, manifest).stdout
         trace = re.sub(rb"^(?:show|audit|#.*)\n", b"", lines, flags=re.M)
-        wanted = program.lines("run", "--processors", 1, "--explain", manifest, "-", text=trace)
+        wanted = program.lines("run", "--explain", manifest, "-", text=trace)
         assert sum(line.startswith("# refused: ") for line in wanted) > 1000
         with Machine(manifest) as machine:
             assert list(play(machine, trace, explain=True)) == wanted
@@ -173,7 +173,7 @@ def test_says_which_numbers_may_be_there(partitions: Machine) -> None:
     assert allowed(Function.FFA_MEM_RECLAIM, 1, 0, 2) == (range(2), "must be 00000000 to 00000001")
     assert allowed(Function.FFA_NOTIFICATION_SET, 0x8001, 1) == (range(0, 3, 2), "must be 00000000 or 00000002")
     assert allowed(Function.FFA_RUN, 0x80010001) == (range(0x80010000, 0x80010001), "must be 80010000")
-    assert allowed(Function.FFA_NOTIFICATION_BITMAP_CREATE, 0, 9) == (range(1, 9), "must be 00000001 to 00000008")
+    assert allowed(Function.FFA_NOTIFICATION_BITMAP_CREATE, 0, 9) == (range(1, 2), "must be 00000001")
     assert allowed(Function.FFA_RUN, 0x90000000)[0] is None
 
 

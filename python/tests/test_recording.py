@@ -11,7 +11,7 @@ from gorseplumb import Call, DataAccess, Fault, Faulted, Function, IndirectMessa
 from gorseplumb import Interrupt, Offer, PageRange, Receiver, jsonlines, play
 
 MANIFEST = EXAMPLES / "partitions.toml"
-STRICT = ("run", "--strict", "--processors", 1)
+STRICT = ("run", "--strict")
 
 
 def bench(machine: Machine) -> None:

@@ -26,16 +26,6 @@ def play_rows() -> ModuleType:
 
 SCRIPT = play_rows()
 ROWS = {row: SCRIPT.joined(row) for row in SCRIPT.every_row()}
-# A row of no `--processors` is of a machine that does not serve FFA_NOTIFICATION_INFO_GET. Each machine of the library serves
-# it, and has nothing to tell in these rows.
-NO_DATA = "regs 0 84000060 0 FFFFFFF7"
-SERVED = {
-    "call 84000064 84000083": "regs 0 84000061",
-    "call 84000064 C4000083": "regs 0 84000061",
-    "call 84000083": NO_DATA,
-    "call C4000083": NO_DATA,
-    "call FF84000083 A100000001 A200000002 A300000003 A400000004 A500000005 A600000006 A700000007": NO_DATA,
-}
 
 
 def whole(guard: str) -> str:
@@ -61,25 +51,11 @@ def manifest_of(name: str, ffa: Ffa) -> Manifest:
     return replace(read, endpoints=endpoints, ffa=ffa)
 
 
-def wanted_of(lines: list[str]) -> list[str]:
-    """What the guards of a row want of the library."""
-    served = {} if SCRIPT.named(lines, "with") else SERVED
-    wanted = []
-    for before, line in zip(["", *lines], lines):
-        if line.startswith("#= "):
-            wanted.append(whole(served.get(before, line.removeprefix("#= "))))
-    return wanted
-
-
-def test_rows_have_what_the_library_serves() -> None:
-    assert set(SERVED) <= {line for lines in ROWS.values() if not SCRIPT.named(lines, "with") for line in lines}
-
-
 @pytest.mark.parametrize("blocks", [0, 1], ids=["heap", "lent"])
 @pytest.mark.parametrize("row", ROWS)
 def test_a_row_gives_what_it_wants(row: str, blocks: int) -> None:
     lines = ROWS[row]
-    wanted = wanted_of(lines)
+    wanted = [whole(line.removeprefix("#= ")) for line in lines if line.startswith("#= ")]
     ffa = Ffa.V1_2 if "--ffa" in SCRIPT.named(lines, "with") else Ffa.V1_1
     for name in SCRIPT.named(lines, "on"):
         with Machine(manifest_of(name, ffa), Ram(blocks) if blocks else None) as machine:

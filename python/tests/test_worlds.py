@@ -7,8 +7,8 @@ from dataclasses import replace
 import pytest
 from conftest import EXAMPLES
 
-from gorseplumb import Check, DataAccess, Denied, Ffa, Flaw, Form, Function, IndirectMessage, InvalidParameters, Kind
-from gorseplumb import Machine, Manifest, Offer, PageRange, Receiver, Reason, Relinquish, Retrieve, RetrieveResponse
+from gorseplumb import Busy, Check, DataAccess, Denied, Ffa, Flaw, Form, Function, IndirectMessage, InvalidParameters, Kind
+from gorseplumb import Machine, Manifest, Offer, PageRange, ReadBack, Receiver, Reason, Relinquish, Retrieve, RetrieveResponse
 
 FFA_1_1 = Manifest.read(EXAMPLES / "machine.toml")
 FFA_1_2 = replace(FFA_1_1, ffa=Ffa.V1_2)
@@ -53,6 +53,28 @@ def test_sends_and_retrieves_in_each_form(world: Form, first: Form) -> None:
         machine.do(Function.FFA_RUN, partition=0x8001)
         offset = 40 if world is Form.FFA_1_2 else 20
         assert machine.read(TX_1 + 0x1000, offset + 5) == IndirectMessage(0, 0x8001, b"hello").to_bytes(world)
+
+
+@pytest.mark.parametrize("form", Form)
+def test_the_normal_world_reads_back_what_it_shared(form: Form) -> None:
+    # tests/rows/ffa-1.2/a-hypervisor-*.trace
+    receivers = (Receiver(0x8001, DataAccess.RW), Receiver(0x8002, DataAccess.RO))
+    share = Offer(Kind.SHARE, 0, receivers, (NORMAL,), tag=0x77)
+    with Machine(of_forms(form, Form.FFA_1_1)) as machine:
+        maps(machine, TX)
+        handle = machine.send(share, TX).handle
+        told = machine.send(ReadBack(handle), TX)
+        data = machine.read(TX + 0x1000, told.x[1])
+        assert len(data) == {Form.FFA_1_1: 0x70, Form.COMPACT: 0x60, Form.FFA_1_2: 0x90}[form]
+        response = RetrieveResponse.from_bytes(data, form)
+        is_told = form is not Form.COMPACT
+        assert response == RetrieveResponse(Kind.SHARE, 0, handle, receivers, (NORMAL,), tag=0x77, non_secure=is_told)
+        with pytest.raises(Busy, match="the caller's RX is full$"):
+            machine.send(ReadBack(handle), TX)
+        machine.do(Function.FFA_RX_RELEASE)
+        machine.do(Function.FFA_MEM_RECLAIM, handle=handle)
+        with pytest.raises(InvalidParameters, match="check 16: no open transaction from the caller has the handle"):
+            machine.send(ReadBack(handle), TX)
 
 
 @pytest.mark.parametrize("form", Form)

@@ -85,6 +85,7 @@ codes! {
         76 WorldsMixed "secure pages are sent to the normal world, or together with non-secure pages",
         77 ReceiversDiffer "the endpoints in the descriptor are not the transaction's receivers",
         78 BuffersNeeded "the call needs RX and TX, and the caller has none",
+        79 NothingToTell "the normal world has been told of all pending notifications",
     }
 }
 

@@ -448,6 +448,29 @@ impl Retrieve {
 
 shown! { Retrieve { sender, handle, receiver, tag: hexadecimal, kind } }
 
+/// What the normal world asks for by FFA_MEM_RETRIEVE_REQ as a hypervisor: to read back a transaction that it sent. Only a machine
+/// of [FF-A 1.2](Ffa::V1_2) serves this.
+#[derive(Clone, Copy, Debug, PartialEq, Eq, Hash)]
+pub struct ReadBack {
+    /// The transaction's handle.
+    pub handle: Handle,
+}
+
+impl ReadBack {
+    /// The descriptor, in the normal world's form: a header, in which only the handle is not 0.
+    #[must_use]
+    pub fn to_bytes(&self, form: Version) -> DescriptorBytes {
+        let mut bytes = DescriptorBytes::NONE;
+        bytes.put([0; 8]);
+        bytes.put(self.handle.0.to_le_bytes());
+        bytes.put([0; 16]);
+        if form != Version::Compact {
+            bytes.put([0; 16]);
+        }
+        bytes
+    }
+}
+
 /// What FFA_MEM_RETRIEVE_RESP leaves in RX.
 ///
 /// ```
@@ -471,7 +494,8 @@ shown! { Retrieve { sender, handle, receiver, tag: hexadecimal, kind } }
 /// let mut page = Page::ZERO;
 /// machine.load_bytes(rx, &mut page.0)?;
 /// let response = RetrieveResponse::read(&page.0, Version::V1_1)?;
-/// assert_eq!((response.receiver.data, response.ranges()), (DataAccess::Rw, &[PageRange::new(0x4001_0000, 2)][..]));
+/// let holds = Receiver { instructions: InstructionAccess::Nx, ..Receiver::rw(Id(0x8001)) };
+/// assert_eq!((response.receivers(), response.ranges()), (&[holds][..], &[PageRange::new(0x4001_0000, 2)][..]));
 /// # Ok::<(), Box<dyn std::error::Error>>(())
 /// ```
 #[derive(Clone, PartialEq, Eq)]
@@ -482,8 +506,6 @@ pub struct RetrieveResponse {
     pub sender: Id,
     /// The transaction's handle.
     pub handle: Handle,
-    /// Who has retrieved, with the right that it holds from now on.
-    pub receiver: Receiver,
     /// Whether the pages were zeroed.
     pub zeroed: bool,
     /// The offer's tag.
@@ -491,15 +513,24 @@ pub struct RetrieveResponse {
     /// Whether the pages are told to be non-secure, as only a machine of [FF-A 1.2](crate::Ffa::V1_2) tells it, and not in the
     /// compact form.
     pub non_secure: bool,
-    count: usize,
+    receiver_count: usize,
+    receivers: [Receiver; MOST_RECEIVERS],
+    range_count: usize,
     ranges: [PageRange; MOST_RANGES],
 }
 
 impl RetrieveResponse {
+    /// Who has retrieved, with the right that it holds from now on. To a [`ReadBack`] each receiver, with the right that the sender
+    /// granted.
+    #[must_use]
+    pub fn receivers(&self) -> &[Receiver] {
+        &self.receivers[..self.receiver_count]
+    }
+
     /// Which pages.
     #[must_use]
     pub fn ranges(&self) -> &[PageRange] {
-        &self.ranges[..self.count]
+        &self.ranges[..self.range_count]
     }
 
     /// What the bytes of RX say, in the receiver's form. Those behind the response may be anything.
@@ -508,24 +539,31 @@ impl RetrieveResponse {
     /// The first condition that they break. No response of a machine does.
     pub fn read(bytes: &[u8], form: Version) -> Result<RetrieveResponse, DescriptorError> {
         let (header, array) = read_header(bytes, form)?;
-        require(header.count == 1, Flaw::RetrieveAccessCount)?;
-        let access = array.read(bytes, 0);
-        check_permissions(access.permissions)?;
+        let receiver_count = header.count as usize;
+        require((1..=MOST_RECEIVERS).contains(&receiver_count), Flaw::RetrieveAccessCount)?;
+        let mut receivers = [Receiver::new(Id::NORMAL_WORLD); MOST_RECEIVERS];
+        for (index, receiver) in receivers[..receiver_count].iter_mut().enumerate() {
+            let access = array.read(bytes, index);
+            check_permissions(access.permissions).map_err(|error| DescriptorError { index: index as u32, ..error })?;
+            *receiver = Receiver::of(&access);
+        }
         let kind = Kind::of(header.flags >> 3 & 3).ok_or(DescriptorError { flaw: Flaw::RetrieveFlags, index: 0 })?;
-        let count = read_count(bytes, access.composite, array)?;
+        let composite = array.composite(bytes);
+        let range_count = read_count(bytes, composite, array)?;
         let mut ranges = [PageRange::NONE; MOST_RANGES];
-        for (index, range) in ranges[..count].iter_mut().enumerate() {
-            *range = read_range(bytes, access.composite as usize + ENTRY * (1 + index)).0;
+        for (index, range) in ranges[..range_count].iter_mut().enumerate() {
+            *range = read_range(bytes, composite as usize + ENTRY * (1 + index)).0;
         }
         Ok(RetrieveResponse {
             kind,
             sender: Id(header.sender),
             handle: Handle(header.handle),
-            receiver: Receiver::of(&access),
             zeroed: header.flags & 1 != 0,
             tag: header.tag,
             non_secure: form != Version::Compact && header.attributes & NON_SECURE != 0,
-            count,
+            receiver_count,
+            receivers,
+            range_count,
             ranges,
         })
     }
@@ -537,7 +575,7 @@ impl fmt::Debug for RetrieveResponse {
             .field("kind", &self.kind)
             .field("sender", &self.sender)
             .field("handle", &self.handle)
-            .field("receiver", &self.receiver)
+            .field("receivers", &self.receivers())
             .field("ranges", &self.ranges())
             .field("zeroed", &self.zeroed)
             .field("tag", &Hexadecimal(self.tag))

@@ -153,8 +153,8 @@ pub use certificate::{AuditError, Grant, PageRun};
 pub use checks::{Check, Flaw};
 pub use codes::{BootError, Cause, ErrorCode, Fault};
 pub use descriptors::{
-    DataAccess, DescriptorError, InstructionAccess, Kind, Offer, OfferRoom, PageRange, Receiver, Relinquish, Retrieve,
-    RetrieveResponse, MOST_DESCRIPTOR, MOST_RANGES, MOST_RECEIVERS,
+    DataAccess, DescriptorError, InstructionAccess, Kind, Offer, OfferRoom, PageRange, ReadBack, Receiver, Relinquish,
+    Retrieve, RetrieveResponse, MOST_DESCRIPTOR, MOST_RANGES, MOST_RECEIVERS,
 };
 pub use explaining::CallError;
 pub use functions::Function;

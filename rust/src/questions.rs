@@ -44,8 +44,8 @@ impl<R: Ram> Machine<R> {
         unsafe { raw::gorseplumb_npi_pending(self.asked(), endpoint.0) }
     }
 
-    /// Whether the normal world's schedule receiver interrupt is to be pending: a notification is pending of an endpoint
-    /// that no FFA_NOTIFICATION_INFO_GET has told it of since.
+    /// Whether the normal world's schedule receiver interrupt is to be pending: its next FFA_NOTIFICATION_INFO_GET would
+    /// name an endpoint. Always false on a machine of [FF-A 1.1](crate::Ffa::V1_1), which does not serve that call.
     #[inline]
     #[must_use]
     pub fn sri_pending(&self) -> bool {

@@ -1,6 +1,6 @@
 // SPDX-License-Identifier: MIT OR Apache-2.0
 //! Descriptors that are stored into TX, with the calls that read them there.
-use crate::descriptors::{DescriptorError, Offer, Relinquish, Retrieve};
+use crate::descriptors::{DescriptorError, Offer, ReadBack, Relinquish, Retrieve};
 use crate::explaining::CallError;
 use crate::functions::Function;
 use crate::layout::DescriptorBytes;
@@ -21,7 +21,7 @@ mod sealed {
     }
 }
 
-/// What stands in TX for a call on memory: an [`Offer`], a [`Retrieve`] or a [`Relinquish`].
+/// What stands in TX for a call on memory: an [`Offer`], a [`Retrieve`], a [`ReadBack`] or a [`Relinquish`].
 pub trait Descriptor: sealed::Descriptor {}
 
 impl<T: sealed::Descriptor + ?Sized> Descriptor for T {}
@@ -37,6 +37,16 @@ impl sealed::Descriptor for Offer<'_> {
 }
 
 impl sealed::Descriptor for Retrieve {
+    fn bytes(&self, form: Version) -> Result<DescriptorBytes, DescriptorError> {
+        Ok(self.to_bytes(form))
+    }
+
+    fn function(&self) -> Function {
+        Function::MemRetrieveReq
+    }
+}
+
+impl sealed::Descriptor for ReadBack {
     fn bytes(&self, form: Version) -> Result<DescriptorBytes, DescriptorError> {
         Ok(self.to_bytes(form))
     }

@@ -30,7 +30,7 @@ fn certificates_are_what_the_program_prints() {
         let trace = example(&format!("{name}.trace")).replace('\n', "\naudit\n");
         let path = std::env::temp_dir().join(format!("gorseplumb-{}-{name}.audit", std::process::id()));
         fs::write(&path, &trace).unwrap();
-        let expected = run(&["run", "--processors", "1", "--explain", file.to_str().unwrap(), path.to_str().unwrap()]);
+        let expected = run(&["run", "--explain", file.to_str().unwrap(), path.to_str().unwrap()]);
         fs::remove_file(&path).unwrap();
         let told = explain(&mut Machine::boot(&PARTITIONS).unwrap(), &trace);
         assert!(told == expected, "{name}");

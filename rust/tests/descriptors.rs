@@ -260,7 +260,7 @@ fn responses() {
             (Kind::Lend, Id(1), Handle(2), 4, true)
         );
         let holds = Receiver { instructions: InstructionAccess::Nx, ..Receiver::rw(Id(3)) };
-        assert_eq!(told.receiver, holds);
+        assert_eq!(told.receivers(), [holds]);
         assert_eq!(told.ranges(), [PageRange::new(4096, 1), PageRange::new(0x1_0000_4000, 2)]);
         let mut bytes = response(form);
         bytes[2] = 0x6F;
@@ -274,7 +274,8 @@ fn what_is_no_response() {
     let rows = [
         (4, 0, RetrieveFlags),
         (24, 0, HeaderAccessSize),
-        (28, 2, RetrieveAccessCount),
+        (28, 0, RetrieveAccessCount),
+        (28, 2, CompositeInArray), // where one access descriptor stands
         (50, 3, RetrieveDataPermission),
         (50, 12, RetrieveInstructionPermission),
         (52, 48, CompositeInArray),

@@ -70,7 +70,7 @@ fn the_examples_give_what_the_program_prints() {
         let file = top().join(format!("examples/{machine}.toml"));
         for name in traces {
             let trace = top().join(format!("examples/{name}.trace"));
-            let expected = run(&["run", "--processors", "1", file.to_str().unwrap(), trace.to_str().unwrap()]);
+            let expected = run(&["run", file.to_str().unwrap(), trace.to_str().unwrap()]);
             plays(name, &example(&format!("{machine}.toml")), manifest, &example(&format!("{name}.trace")), &expected);
         }
     }

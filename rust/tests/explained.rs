@@ -7,13 +7,6 @@ use common::top;
 use gorseplumb::{Ffa, Machine, Manifest};
 use std::fs;
 
-/// What a machine of several processors answers otherwise: it serves one more call, and notifications of several contexts.
-const OTHERWISE: [&str; 3] = [
-    "FFA_NOTIFICATION_INFO_GET check 1: ",
-    "FFA_NOTIFICATION_BITMAP_CREATE check 3: ",
-    "FFA_NOTIFICATION_GET check 2: ",
-];
-
 /// Compares the reason of the last line of a trace, whose first lines are those before. Of a row with four fields the
 /// first two are what stands in the manifest, and what shall.
 fn compare(row: &str, manifest: &str, ffa: Ffa, before: &str) {
@@ -23,9 +16,6 @@ fn compare(row: &str, manifest: &str, ffa: Ffa, before: &str) {
         [from, to, trace, told] => (manifest.replacen(from, to, 1), trace, told),
         _ => panic!("{row}"),
     };
-    if OTHERWISE.iter().any(|other| told.starts_with(other)) {
-        return;
-    }
     let manifest = Manifest::read(manifest).unwrap().with_ffa(ffa);
     let text = explain(&mut Machine::boot(&manifest).unwrap(), &(before.to_owned() + &trace.replace('/', "\n")));
     assert_eq!(text.lines().last(), Some(format!("# refused: {told}").as_str()), "{row}");

@@ -5,7 +5,7 @@ mod common;
 use common::machines::MACHINE;
 use common::ram;
 use gorseplumb::{
-    Answer, ErrorCode, Fault, Function, Id, Machine, Operation, Outcome, Processor, Ram, Registers, Size,
+    Answer, Check, ErrorCode, Fault, Ffa, Function, Id, Machine, Operation, Outcome, Processor, Ram, Registers, Size,
 };
 
 const P0: Processor = Processor::FIRST;
@@ -71,36 +71,54 @@ fn each_processor_runs_a_partition<R: Ram>(machine: &mut Machine<R>) {
     assert_eq!(runners(machine), [Id::NORMAL_WORLD; 8]);
 }
 
-fn the_normal_world_is_told_whom_to_run<R: Ram>(machine: &mut Machine<R>) {
-    let info_get: Registers = [0x8400_0083, 0, 0, 0, 0, 0, 0, 0];
+/// Only on a machine of FF-A 1.2 is the normal world told whom to run, and has more than one context.
+fn the_normal_world_is_told_whom_to_run<R: Ram>(machine: &mut Machine<R>, ffa: Ffa) {
+    const INFO_GET: Registers = [0x8400_0083, 0, 0, 0, 0, 0, 0, 0];
+    let is_told = ffa == Ffa::V1_2;
     let bit_of_the_normal_world = [0x8001_0000, 0, 1];
     let is_done = |answer: Answer| assert_eq!(answer.function(), Some(Function::Success));
-    is_done(on(machine, P1).call(&Function::NotificationBitmapCreate.with([0, 8])));
+    let create = |contexts| Function::NotificationBitmapCreate.with([0, contexts]);
+    let refused = on(machine, P1).call(&create(if is_told { 9 } else { 2 }));
+    assert_eq!(refused.error(), Some(ErrorCode::InvalidParameters));
+    is_done(machine.call(&create(if is_told { 8 } else { 1 })));
     is_done(machine.call(&Function::NotificationBind.with(bit_of_the_normal_world)));
     on(machine, P0).call(&run(FIRST));
     assert!(!machine.sri_pending());
     is_done(machine.call(&Function::NotificationSet.with(bit_of_the_normal_world)));
-    assert!(machine.sri_pending());
-    let told = on(machine, P1).call(&info_get);
-    assert_eq!(told.registers(), Some(&Function::Success.with([0, 0x80])));
+    assert_eq!((machine.npi_pending(Id::NORMAL_WORLD), machine.sri_pending()), (true, is_told));
+    assert_eq!(machine.call(&INFO_GET).error(), Some(ErrorCode::NotSupported));
+    let told = on(machine, P1).call(&INFO_GET);
+    let refused = if is_told {
+        assert_eq!(told.registers(), Some(&Function::Success.with([0, 0x80])));
+        (ErrorCode::NoData, Check::NothingToTell)
+    } else {
+        assert_eq!(told.error(), Some(ErrorCode::NotSupported));
+        (ErrorCode::NotSupported, Check::FunctionUnknown)
+    };
     assert!(!machine.sri_pending());
+    assert_eq!(machine.call(&INFO_GET).error(), Some(refused.0));
+    assert_eq!(machine.why_call(&INFO_GET).map(|reason| (reason.error, reason.check)), Some(refused));
+}
+
+fn several_processors_run<R: Ram>(machine: &mut Machine<R>, ffa: Ffa) {
+    is_preempted_and_goes_on_elsewhere(machine);
+    each_processor_runs_a_partition(machine);
+    the_normal_world_is_told_whom_to_run(machine, ffa);
 }
 
 #[test]
 fn on_the_heap() {
-    let mut machine = Machine::boot(&MACHINE).unwrap();
-    is_preempted_and_goes_on_elsewhere(&mut machine);
-    each_processor_runs_a_partition(&mut machine);
-    the_normal_world_is_told_whom_to_run(&mut machine);
+    for ffa in [Ffa::V1_1, Ffa::V1_2] {
+        several_processors_run(&mut Machine::boot(&MACHINE.with_ffa(ffa)).unwrap(), ffa);
+    }
 }
 
 #[test]
 fn in_lent_pages() {
     let mut pages = ram(1);
-    let mut machine = Machine::boot_lent(&MACHINE, &mut pages).unwrap();
-    is_preempted_and_goes_on_elsewhere(&mut machine);
-    each_processor_runs_a_partition(&mut machine);
-    the_normal_world_is_told_whom_to_run(&mut machine);
+    for ffa in [Ffa::V1_1, Ffa::V1_2] {
+        several_processors_run(&mut Machine::boot_lent(&MACHINE.with_ffa(ffa), &mut pages).unwrap(), ffa);
+    }
 }
 
 #[test]

@@ -151,8 +151,8 @@ fn numbers_that_may_be() {
     assert_eq!(pages, Some((1, 4, 1)));
     ends(&words, ", and must be 00000001 to 00000004");
     let (context, words) = told("", "call 84000082 80000 1");
-    assert_eq!(context, Some((0, 0x7_0000, 0x1_0000)));
-    ends(&words, ", and must be 00000000 to 00070000 in steps of 00010000");
+    assert_eq!(context, Some((0, 0, 0x1_0000)));
+    ends(&words, ", and must be 00000000");
     let (flags, words) = told("", "call 84000081 8001 1 1");
     assert_eq!(flags, Some((0, 2, 2)));
     ends(&words, ", and must be 00000000 or 00000002");

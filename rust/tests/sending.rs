@@ -98,7 +98,7 @@ fn a_share_up_to_its_reclaim() {
         let told = response(&mut machine, answer, partition);
         let holds = Receiver { instructions: InstructionAccess::Nx, ..Receiver::ro(FIRST) };
         assert_eq!((told.kind, told.sender, told.handle, told.tag), (Kind::Share, WORLD, handle, 7));
-        assert_eq!((told.receiver, told.ranges(), told.zeroed), (holds, &ranges[..], false));
+        assert_eq!((told.receivers(), told.ranges(), told.zeroed), (&[holds][..], &ranges[..], false));
         assert_eq!(told.non_secure, [world, partition].contains(&V1_2) && partition != Version::Compact);
         assert_eq!(machine.load(PAGE, Size::B1), Ok(42));
         assert_eq!(machine.store(PAGE, Size::B1, 1), Err(Fault::Permission));
@@ -122,7 +122,7 @@ fn a_lend_that_is_zeroed() {
     let executable = Receiver { instructions: InstructionAccess::X, ..Receiver::rw(FIRST) };
     let answer = machine.send(&Retrieve::new(WORLD, handle, executable), TX_1, Version::Compact).unwrap();
     let told = response(&mut machine, answer, Version::Compact);
-    assert_eq!((told.kind, told.receiver, told.zeroed), (Kind::Lend, executable, true));
+    assert_eq!((told.kind, told.receivers(), told.zeroed), (Kind::Lend, &[executable][..], true));
     assert_eq!(machine.load(PAGE, Size::B1), Ok(0));
     machine.store(PAGE, Size::B1, 43).unwrap();
     machine.send(&Relinquish { zero: true, ..Relinquish::new(handle, FIRST) }, TX_1, V1_1).unwrap();

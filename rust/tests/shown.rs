@@ -169,7 +169,7 @@ fn descriptors() {
     words[9] = 16;
     let response: Vec<u8> = words.iter().flat_map(|word| word.to_le_bytes()).collect();
     let receiver = "Receiver { endpoint: Id(0x8001), data: Rw, instructions: Nx }";
-    let told = format!("receiver: {receiver}, ranges: [{range}], zeroed: true, tag: 0x0, non_secure: false");
+    let told = format!("receivers: [{receiver}], ranges: [{range}], zeroed: true, tag: 0x0, non_secure: false");
     let response = RetrieveResponse::read(&response, Version::Compact).unwrap();
     shows(response, &format!("RetrieveResponse {{ kind: Lend, sender: Id(0x0), handle: Handle(0xA), {told} }}"));
 }

@@ -133,7 +133,7 @@ fn is_retrieved(machine: &mut Machine, offer: &Offer, receiver: &Receiver, asked
     let told = RetrieveResponse::read(&bytes, FORM).unwrap();
     let data = if offer.kind == Kind::Donate { DataAccess::Rw } else { receiver.data };
     assert_eq!((told.kind, told.sender, told.tag, told.zeroed), (offer.kind, offer.sender, offer.tag, offer.zero));
-    assert_eq!((told.receiver.data, told.ranges()), (data, offer.ranges));
+    assert_eq!((told.receivers()[0].data, told.ranges()), (data, offer.ranges));
     let byte = machine.load(offer.ranges[0].address, Size::B1);
     assert_eq!(byte, Ok(if offer.zero { 0 } else { 0x5A }));
 }

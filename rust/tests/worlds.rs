@@ -47,6 +47,39 @@ fn properties(machine: &mut Machine) -> [u64; 2] {
     })
 }
 
+/// As in tests/rows/ffa-1.2/a-hypervisor-*.trace.
+#[test]
+fn the_normal_world_reads_back_what_it_shared() {
+    for (form, minor, asked_size, told_size) in
+        [(Version::Compact, 0, 0x20, 0x60), (Version::V1_1, 1, 0x30, 0x70), (Version::V1_2, 2, 0x30, 0x90)]
+    {
+        let mut machine = Machine::boot(&MACHINE.with_ffa(Ffa::V1_2)).unwrap();
+        machine.call(&Function::Version.with([0x1_0000 | minor]));
+        machine.call(&Function::RxtxMap.with([TX, TX + RX, 1])).done().unwrap();
+        let (receivers, ranges) = ([Receiver::rw(FIRST), Receiver::ro(Id(0x8002))], [PageRange::new(NORMAL, 1)]);
+        let share = Offer { tag: 0x77, ..Offer::new(Kind::Share, Id::NORMAL_WORLD, &receivers, &ranges) };
+        let handle = machine.send(&share, TX, form).unwrap().handle().unwrap();
+        let asked = ReadBack { handle };
+        let mut zeros = vec![0; asked_size];
+        zeros[8] = 1;
+        assert_eq!((handle, &asked.to_bytes(form)[..]), (Handle(1), &zeros[..]));
+        let answer = machine.send(&asked, TX, form).unwrap();
+        assert_eq!(answer.registers(), Some(&Function::MemRetrieveResp.with([told_size, told_size])));
+        let mut bytes = vec![0; told_size as usize];
+        machine.load_bytes(TX + RX, &mut bytes).unwrap();
+        let told = RetrieveResponse::read(&bytes, form).unwrap();
+        assert_eq!((told.kind, told.sender, told.handle), (Kind::Share, Id::NORMAL_WORLD, handle));
+        assert_eq!((told.tag, told.receivers(), told.ranges()), (0x77, &receivers[..], &ranges[..]));
+        assert_eq!((told.zeroed, told.non_secure), (false, form != Version::Compact));
+        machine.call(&Function::RxRelease.with([])).done().unwrap();
+        machine.call(&Function::MemReclaim.with([handle.0])).done().unwrap();
+        match machine.send(&asked, TX, form).unwrap_err() {
+            SendError::Refused(refused) => assert_eq!(refused.reason.unwrap().check, Check::NotTheSenders),
+            other => panic!("{other}"),
+        }
+    }
+}
+
 #[test]
 fn tells_worlds_apart() {
     let (mut machine, told) = boot(Ffa::V1_2);

@@ -13,9 +13,7 @@ pub fn explain<R: Ram>(machine: &mut Machine<R>, trace: &str) -> String {
 fn explain_line<R: Ram>(machine: &mut Machine<R>, line: &str) -> String {
     let before = reason(machine, line);
     let told = play_line(machine, line);
-    // NO_DATA says that nothing is pending, and refuses nothing.
-    let is_error = told.contains(" 0000000084000060 ") && !told.contains(" 00000000FFFFFFF7 ");
-    let is_refused = is_error || told.starts_with("fault ");
+    let is_refused = told.contains(" 0000000084000060 ") || told.starts_with("fault ");
     assert_eq!(before.is_some(), is_refused, "{line}: {before:?}");
     // An operation that is refused changes nothing, so the reason stands.
     if is_refused {

@@ -48,7 +48,7 @@ pub fn generated(manifest: &str, seed: &str, flags: &[&str]) -> (String, String)
     assert!(operations >= 100_000, "{operations} operations");
     let path = env::temp_dir().join(format!("gorseplumb-{}-{seed}.trace", process::id()));
     fs::write(&path, &trace).unwrap();
-    let expected = run(&[&["run", "--processors", "1"], flags, &[manifest, path.to_str().unwrap()]].concat());
+    let expected = run(&[&["run"], flags, &[manifest, path.to_str().unwrap()]].concat());
     fs::remove_file(&path).unwrap();
     (trace, expected)
 }

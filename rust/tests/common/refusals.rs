@@ -253,6 +253,7 @@ fn notifications() -> Vec<Row> {
     let destroy = "FFA_NOTIFICATION_BITMAP_DESTROY";
     let set = "FFA_NOTIFICATION_SET";
     let get = "FFA_NOTIFICATION_GET";
+    let info_get = "FFA_NOTIFICATION_INFO_GET";
     let set_0 = "call 84000081 80010000 0 1\n"; // by 8001, of the normal world's bit 0
     let mut rows = vec![
         row(create, 1, NotNormalWorld, &[RUN_1], "call 8400007D"),
@@ -273,6 +274,8 @@ fn notifications() -> Vec<Row> {
         row(get, 2, ContextUnknown, &[], "call 84000082 80000"),
         row(get, 3, ClassesUnknown, &[], "call 84000082 0 10"),
         row(get, 4, BitmapsMissing, &[], "call 84000082"),
+        row(info_get, 1, FunctionUnknown, &[RUN_1], "call 84000083"),
+        row(info_get, 2, NothingToTell, &[], "call C4000083"),
     ];
     let bound = "call 8400007F 80020000 0 1";
     let unbound = "call 84000080 80010000 0 1";
