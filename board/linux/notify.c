@@ -11,8 +11,8 @@
 
 /* Linux has notifications only where FFA_FEATURES tells it of interrupts (DEN0077A), and it wants such that a processor sends
  * itself: 0 to 7 are its own. The core knows of no interrupt, and answers NOT_SUPPORTED. What Linux asks behind the schedule
- * receiver's is served where several processors run; it has the lower number, and so is taken first: behind the other there may
- * be nobody to tell of any more. */
+ * receiver's a machine of FF-A 1.2 serves, as this one. Its interrupt has the lower number, and so is taken first: behind the
+ * other there may be nobody to tell of any more. */
 #define PENDING_INTERRUPT 1
 #define PENDING_NUMBER UINT64_C(9)
 #define RECEIVER_INTERRUPT 2
