@@ -1,7 +1,8 @@
 -- SPDX-License-Identifier: MIT OR Apache-2.0
 -- What a reason says of the registers has no LF.
-use Rattle.std.proofs.Common.{◌≡◌, ℕ, ◌+◌, ◌-◌, ◌/◌, ◌%◌, ◌^◌, true, List, [], ◌++◌, Option, None, Some, min, inl, inr, arith, refl, codes, nat_lt, slice_index}
-use Rattle.std.specs.Option.{option_map_or}
+use Rattle.std.proofs.Common.{◌≡◌, ℕ, ◌+◌, ◌-◌, ◌/◌, ◌%◌, ◌^◌, true, false, List, [], ◌++◌, Option, None, Some, min, inl, inr, arith, refl, codes, nat_lt, slice_index}
+use Rattle.std.specs.Option.{option_and_then, option_map, option_map_or}
+use Rattle.std.specs.Prelude.{if◌then◌else◌}
 use Rattle.std.proofs.lemmas.Bool.{and_from, cases_Bool}
 use Rattle.ffa_model.specs.declared.flaw.CompositeFlaw.TheVariants.{Outside}
 use Rattle.ffa_model.specs.declared.flaw.Flaw.{Flaw}
@@ -11,6 +12,7 @@ use Rattle.ffa_model.specs.declared.operation.Op.{Op}
 use Rattle.ffa_model.specs.declared.refusal.Refusal.{Refusal}
 use Rattle.ffa_model.specs.declared.why.About.{About}
 use Rattle.ffa_model.specs.declared.why.About.TheVariants as abouts
+use Rattle.ffa_model.specs.Rows.{Row, is_wide, row_of}
 use Rattle.ffa_mend.specs.Mend.{call_of}
 use Rattle.play_syntax.specs.TraceLines.{has_no_feed}
 use Rattle.play_reasons.specs.Closer.{byte_digits, closer_text, end_of, end_text, ends_text, form_text, name_of_call, no_form_text, part_text, size_of, small_digit, unknown_form, unknown_uuid, uuid_text, word_digits}
@@ -89,9 +91,15 @@ unfolding no_form_text
 single_no_form None h = refl
 single_no_form (Some name) h = single_append (codes ", and " ++ name) (codes " has no 64-bit form") h refl
 
+-- a name is told only of a call without a 64-bit form
+told_names : (row : Option Row) → option_map_or has_no_feed (option_map (λ its. its.name) row) true ≡ true
+    → option_map_or has_no_feed (option_and_then (λ its. if is_wide its then None else Some its.name) row) true ≡ true
+told_names None h = refl
+told_names (Some row) h = elim (is_wide row) as (λ b. option_map_or has_no_feed (if b then None else Some row.name) true ≡ true) [ true ↦ refl | false ↦ h ]
+
 single_form : (narrow : Option ℕ) → IsSingle (form_text narrow)
 single_form None = refl
-single_form (Some function) = single_no_form (name_of_call function) (single_called function)
+single_form (Some function) = single_no_form (name_of_call function) (told_names (row_of function) (single_called function))
 
 -- EACH
 pub single_closer : (op : Op) (refusal : Refusal) (about : Option About) → IsSingle (closer_text op refusal about)
