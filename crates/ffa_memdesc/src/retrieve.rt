@@ -119,6 +119,8 @@ fn check_access(endpoint: EndpointId, access: &Access) -> Result<(), RetrieveFla
     Ok(())
 }
 
+// The descriptor that the bytes say. Its callers know the version of FF-A, so one of FF-A 1.1 has no loop over names.
+#[inline(always)]
 fn retrieve_in<B: Bytes>(
     bytes: &B,
     ffa: Ffa,
@@ -152,6 +154,21 @@ fn retrieve_in<B: Bytes>(
     })
 }
 
+fn retrieve_by<B: Bytes>(
+    bytes: &B,
+    ffa: Ffa,
+    version: Version,
+    endpoint: EndpointId,
+) -> Result<RetrieveDesc, Flaw>
+    ensures found { IfOk result (λ d. Some d ≡ retrieve_of ffa endpoint.0 (in_version version (B.bytes bytes.now))) }
+    ensures first { result_err result ≡ retrieve_flaw ffa endpoint.0 (in_version version (B.bytes bytes.now)) }
+{
+    match ffa {
+        Ffa::V1_1 => retrieve_in(bytes, Ffa::V1_1, version, endpoint),
+        Ffa::V1_2 => retrieve_in(bytes, Ffa::V1_2, version, endpoint),
+    }
+}
+
 /// What the bytes say, wherever they lie, as a retrieve descriptor for this endpoint, which has this version, on a machine of this
 /// FF-A. An error is the first condition of these that they break.
 pub fn read_retrieve<B: Bytes>(
@@ -167,5 +184,5 @@ pub fn read_retrieve<B: Bytes>(
     ensures broken { IfErr result (RetrieveBreaks ffa endpoint.0 (in_version version (B.bytes bytes.now))) }
     ensures first { result_err result ≡ retrieve_flaw ffa endpoint.0 (in_version version (B.bytes bytes.now)) }
 {
-    retrieve_in(bytes, ffa, version, endpoint)
+    retrieve_by(bytes, ffa, version, endpoint)
 }

@@ -13,23 +13,23 @@ pub returns-clause-found : goal.returns-clause-found
 returns-clause-found g c =
     let b = in_version c.args.version (g.B.Bytes.bytes c.args.bytes.now) in
     found (λ (d : RetrieveDesc). d) (Retrieve c.args.ffa c.args.endpoint.0 b) (RetrieveBreaks c.args.ffa c.args.endpoint.0 b) (retrieve_of c.args.ffa c.args.endpoint.0 b) _
-    (retrieve_told c.args.ffa c.args.endpoint.0 b) c.retrieve_in.ensures.found
+    (retrieve_told c.args.ffa c.args.endpoint.0 b) c.retrieve_by.ensures.found
 
 pub returns-clause-none : goal.returns-clause-none
 returns-clause-none g c =
     let b = in_version c.args.version (g.B.Bytes.bytes c.args.bytes.now) in
-    let broken = told_breaks _ _ (RetrieveBreaks c.args.ffa c.args.endpoint.0 b) (retrieve_flaw_breaks c.args.ffa c.args.endpoint.0 b) c.retrieve_in.ensures.first in
+    let broken = told_breaks _ _ (RetrieveBreaks c.args.ffa c.args.endpoint.0 b) (retrieve_flaw_breaks c.args.ffa c.args.endpoint.0 b) c.retrieve_by.ensures.first in
     none (λ (d : RetrieveDesc). d) (Retrieve c.args.ffa c.args.endpoint.0 b) (RetrieveBreaks c.args.ffa c.args.endpoint.0 b) (retrieve_of c.args.ffa c.args.endpoint.0 b) _
     (retrieve_breaks c.args.ffa c.args.endpoint.0 b) broken
 
 pub returns-clause-computed : goal.returns-clause-computed
 returns-clause-computed g c =
     let b = in_version c.args.version (g.B.Bytes.bytes c.args.bytes.now) in
-    let broken = told_breaks _ _ (RetrieveBreaks c.args.ffa c.args.endpoint.0 b) (retrieve_flaw_breaks c.args.ffa c.args.endpoint.0 b) c.retrieve_in.ensures.first in
+    let broken = told_breaks _ _ (RetrieveBreaks c.args.ffa c.args.endpoint.0 b) (retrieve_flaw_breaks c.args.ffa c.args.endpoint.0 b) c.retrieve_by.ensures.first in
     mapped _ _ (all (λ (d : RetrieveDesc). d) (Retrieve c.args.ffa c.args.endpoint.0 b) (RetrieveBreaks c.args.ffa c.args.endpoint.0 b) (retrieve_of c.args.ffa c.args.endpoint.0 b) _
-    (retrieve_told c.args.ffa c.args.endpoint.0 b) (retrieve_breaks c.args.ffa c.args.endpoint.0 b) c.retrieve_in.ensures.found broken)
+    (retrieve_told c.args.ffa c.args.endpoint.0 b) (retrieve_breaks c.args.ffa c.args.endpoint.0 b) c.retrieve_by.ensures.found broken)
 
 pub returns-clause-broken : goal.returns-clause-broken
 returns-clause-broken g c =
     let b = in_version c.args.version (g.B.Bytes.bytes c.args.bytes.now) in
-    told_breaks _ _ (RetrieveBreaks c.args.ffa c.args.endpoint.0 b) (retrieve_flaw_breaks c.args.ffa c.args.endpoint.0 b) c.retrieve_in.ensures.first
+    told_breaks _ _ (RetrieveBreaks c.args.ffa c.args.endpoint.0 b) (retrieve_flaw_breaks c.args.ffa c.args.endpoint.0 b) c.retrieve_by.ensures.first
