@@ -21,6 +21,7 @@
 #define UNKNOWN_FUNCTION UINT64_C(0x840000FF)
 #define NOT_SUPPORTED UINT32_C(0xFFFFFFFF)
 #define DENIED UINT32_C(0xFFFFFFFA)
+#define INVALID_PARAMETERS UINT32_C(0xFFFFFFFE)
 
 /* Fields of descriptors (docs/MEMORY.md). */
 #define NORMAL_MEMORY (UINT64_C(0x2F) << 16)
@@ -50,11 +51,11 @@ struct request {
     struct gorseplumb_registers registers;
 };
 
-/* Pages of the normal world, and what the table calls so many: the first one's address, how many ranges of how many pages there are, and
- * how many pages lie from one range's first to the next one's. */
+/* Pages of the normal world, and what the table calls so many: the first one's address, how many ranges of how many pages there are, how
+ * many pages lie from one range's first to the next one's, and how many places further each next range is in a descriptor. */
 struct shape {
     const char *name;
-    uint64_t first, ranges, pages, apart;
+    uint64_t first, ranges, pages, apart, step;
 };
 
 static void stop(const char *what, const char *why) {
@@ -133,7 +134,7 @@ static uint64_t write_send(uint64_t function, uint64_t from, uint64_t to, const 
     uint64_t words[] = {flags | attributes | from, 0, 0, ONE_OF_16_BYTES, 48, 0, access, 0, total, 0};
     for (uint64_t i = 0; i < 10; i++) store(at + 8 * i, words[i]);
     for (uint64_t i = 0; i < shape->ranges; i++) {
-        store(at + 80 + 16 * i, shape->first + GORSEPLUMB_PAGE_SIZE * shape->apart * i);
+        store(at + 80 + 16 * i, shape->first + GORSEPLUMB_PAGE_SIZE * shape->apart * (i * shape->step % shape->ranges));
         store(at + 88 + 16 * i, shape->pages);
     }
     return 80 + 16 * shape->ranges;
@@ -233,12 +234,14 @@ static void count_calls(void) {
 static void count_refusals(const struct shape *apart) {
     refuses("refused: an unknown function", NOT_SUPPORTED, UNKNOWN_FUNCTION, 0, 0);
     refuses("refused: FFA_RX_RELEASE of an empty RX", DENIED, FFA_RX_RELEASE, 0, 0);
-    struct shape one = {"", TX_OF_PARTITION, 1, 1, 0};
+    struct shape one = {"", TX_OF_PARTITION, 1, 1, 0, 1};
     uint64_t size = write_send(FFA_MEM_SHARE, NORMAL_WORLD, PARTITION, &one, 0);
     refuses("refused: FFA_MEM_SHARE of a page of another's", DENIED, FFA_MEM_SHARE, size, size);
     size = write_send(FFA_MEM_SHARE, NORMAL_WORLD, PARTITION, apart, 0);
     store(TX + size - 16, TX_OF_PARTITION);
     refuses("refused: FFA_MEM_SHARE of 64 ranges, the last another's", DENIED, FFA_MEM_SHARE, size, size);
+    store(TX + size - 16, apart->first);
+    refuses("refused: FFA_MEM_SHARE of 64 ranges, the last the first again", INVALID_PARAMETERS, FFA_MEM_SHARE, size, size);
 }
 
 static void count_accesses(void) {
@@ -254,11 +257,12 @@ static void count_all(void) {
     static const char *const lend[] = {"FFA_MEM_LEND", "FFA_MEM_RETRIEVE_REQ of a lend", "FFA_MEM_RELINQUISH of a lend",
                                        "FFA_MEM_RECLAIM of a lend"};
     static const struct shape shapes[] = {
-        {"1 page", PAGES, 1, 1, 0},
-        {"64 ranges of a page", PAGES, GORSEPLUMB_MOST_RANGES, 1, 2},
-        {"1 page of a block", BLOCK, 1, 1, 0},
-        {"a block, 512 pages", BLOCK, 1, 512, 0},
+        {"1 page", PAGES, 1, 1, 0, 1},
+        {"64 ranges of a page", PAGES, GORSEPLUMB_MOST_RANGES, 1, 2, 1},
+        {"1 page of a block", BLOCK, 1, 1, 0, 1},
+        {"a block, 512 pages", BLOCK, 1, 512, 0, 1},
     };
+    static const struct shape mixed = {"64 ranges, not in order", PAGES, GORSEPLUMB_MOST_RANGES, 1, 2, 37};
     count_calls();
     count_refusals(&shapes[1]);
     count_accesses();
@@ -268,6 +272,7 @@ static void count_all(void) {
         if (shapes[i].pages == 1) clears(&shapes[i]);
         donates(&shapes[i]);
     }
+    borrows(lend, &mixed, FFA_MEM_LEND);
 }
 
 int main(int word_count, char **words) {

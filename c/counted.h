@@ -12,7 +12,7 @@ static size_t pieces, asked, asked_bytes, refused;
 
 /* Of a list: its own, its pages' addresses, copies of TX, and of the machine its place, owners of pages and transactions. Of no page
  * they have so many bytes, as README.md and docs/PERFORMANCE.md say. */
-enum { LIST_PIECES = 6, LIST_BYTES = 103352 };
+enum { LIST_PIECES = 6, LIST_BYTES = 103384 };
 
 static struct gorseplumb_block block_at(void *at) {
     static char nothing;

@@ -1,36 +1,54 @@
 /* SPDX-License-Identifier: MIT OR Apache-2.0 */
-/* Gorseplumb from C: a partition manager core of FF-A 1.1, as a machine that does one operation at a time.
+/* Gorseplumb in C: the core of a partition manager for Arm FF-A 1.1 and 1.2. You need this header if your firmware,
+ * test bench or other C program runs a machine. A machine has RAM, endpoints, stage 2 tables and a state, and does one
+ * operation at a time. docs/EMBEDDING.md has the steps of the work. example.c is the shortest program.
  *
- * Link libgorseplumb.a with it, the three functions of memory that are declared below (heap.c has them, or write your
- * own), memcpy, memmove, memset and a gorseplumb_settle (below), which unsettled.c has for a program in which no processor
- * walks the tables. Each function here keeps the contract that stands beside its namesake in
- * crates/ffa_c/src, and the proof reaches to there: that the declarations below are those of the crate is tested, and
- * not proved, and so is what is said of pieces of memory and of what a question doesn't write. An archive that
- * `c/archive --unproved` made keeps no contract by proof, and gorseplumb_version says so.
+ * How to link it: link libgorseplumb.a. Your program must also have these functions:
  *
- * The headers are C99 and C++11, and later. array.c, and what has pages of its own as freestanding.c, need C11 (_Alignas).
+ * - rattle_alloc, rattle_realloc and rattle_dealloc, which are declared below. Link heap.c, which has them, or write
+ *   your own.
+ * - memcpy, memmove and memset, as in C.
+ * - gorseplumb_settle, which is declared below. If no processor walks the tables, link unsettled.c, which has it.
+ *   Otherwise write your own.
  *
- * Every name begins with gorseplumb_ or GORSEPLUMB_, but for the three functions of memory, whose names are the
- * toolchain's: those of the standard, as of calls and error codes, aren't used, since firmware has headers with them.
- * Who has none includes gorseplumb_ffa.h, which names them behind this prefix.
- * An enum is 32 bits wide, as compilers make it that aren't told otherwise (-fshort-enums).
+ * The proof: each function of this header keeps the contract of its namesake in crates/ffa_c/src. The proof ends there.
+ * Only tests show that the declarations below agree with the crate. Only tests show what this header says about pieces
+ * of memory, and what it says that a question does not write. If `c/archive --unproved` made the archive, no proof
+ * covers its code, and gorseplumb_version says so.
  *
- * What C owes, and nothing checks:
+ * Language: the headers compile as C99 and C++11, and as later versions. array.c needs C11 for _Alignas. So does a
+ * program that has its own pages, such as freestanding.c.
  *
- * - A pointer is not null, points to memory of its type that C may write, and no other parameter of the call points
- *   there. Behind a pointer to const, memory need only be readable; of a text `size` bytes may be read.
- * - A struct that holds a machine, a list or pages is { 0 } at first, in C++ {}. C writes neither of its fields afterwards (but
- *   for those of a slot and of a span, below), and doesn't follow `at`. It may be moved by copying it, if only the copy
- *   is used from then on.
- * - One call at a time on a machine, a list, a slot or a span: no other call may be on its way with it, on no processor
- *   and in no signal or interrupt handler, and no two questions either. Else the tables may give what nobody granted,
- *   and nothing notices.
- * - Memory that is lent is nobody else's until it is taken back: C neither reads nor writes it, through any mapping.
- *   Endpoints that a processor runs do, each within the access that the machine gives it. While a call is on its way the
- *   pages of the caller's TX may be written: what the call reads of them it copies first. What else may be is in
- *   docs/CONCURRENCY.md, and what of this no proof speaks of in docs/SECURITY.md.
- * - The library's memory and the stack are memory in which accesses that aren't aligned are done: on AArch64 normal
- *   memory, with SCTLR_ELx.A clear. With the MMU off memory is device memory, and there they fault.
+ * Names: every name begins with gorseplumb_ or GORSEPLUMB_. The exceptions are the three functions of memory, whose
+ * names come from the toolchain. The header does not use the standard's names of calls and error codes, because
+ * firmware has headers with these names. If you have no such header, include gorseplumb_ffa.h, which has the names with
+ * this prefix.
+ *
+ * Your C code must keep the following rules. Nothing checks them. If your code breaks a rule, no promise of this header
+ * holds any longer.
+ *
+ * - Pointers. No pointer is null. A pointer points to memory of its type that C may write, and no other parameter of
+ *   the call points to this memory. For a pointer to const, C need only be allowed to read this memory. For a text, C
+ *   must be allowed to read `size` bytes. An array has the number of places that you pass. Otherwise a call reads or
+ *   writes memory that is not for it.
+ * - Structs for a machine, a list or pages. Such a struct begins as { 0 }, and in C++ as {}. After that, C writes no
+ *   field of it, and does not follow `at`. Only for a slot and a span, C may write the fields, as described below.
+ *   Otherwise the library takes a wrong address for a machine, a list or a page.
+ * - Moves of such a struct. C may move the struct by copying it, if C uses only the copy from then on. Otherwise two
+ *   structs hold the same thing, and each of them can end it.
+ * - One call at a time. While a call with a machine, a list, a slot or a span is in progress, C makes no other call
+ *   with it. This includes calls on other processors, and calls in handlers of signals and interrupts. Two questions
+ *   may not overlap either. Otherwise the tables may give access that nobody granted, and nothing notices.
+ * - Lent memory. From the time when you lend memory until you take it back, C neither reads nor writes it, through any
+ *   mapping. Endpoints that a processor runs access it, each within the access that the machine gives to it. During a
+ *   call, they may write the pages of the caller's TX, because the call first copies the bytes of TX that it reads. The
+ *   page docs/CONCURRENCY.md says what else they may write then. The page docs/SECURITY.md says which part of this has
+ *   no proof. Otherwise bytes and tables of the machine are not what the contracts say.
+ * - Unaligned accesses. The processor must do unaligned accesses to the library's memory and to the stack. On AArch64,
+ *   both must be normal memory, with SCTLR_ELx.A clear. If the MMU is off, memory is device memory, and these accesses
+ *   fault.
+ * - Enums. An enum of this header is 32 bits wide. Compilers make it so without the option -fshort-enums. Otherwise C
+ *   and the library disagree about the size of an answer.
  */
 #ifndef GORSEPLUMB_H
 #define GORSEPLUMB_H
@@ -43,77 +61,88 @@
 extern "C" {
 #endif
 
-/* The number of these declarations, raised by each change that a caller has to know of. Who loads the library while a
- * program runs compares it with gorseplumb_declarations, which answers the number that the library was built by. */
+/* The number of these declarations. Each change that a caller must know about raises it. */
 #define GORSEPLUMB_DECLARATIONS 13
 
+/* Returns the number of the declarations by which the library was built. If your program loads the library while it
+ * runs, compare this number with GORSEPLUMB_DECLARATIONS. */
 uint32_t gorseplumb_declarations(void);
 
-/* The version of the library as text: "0.1.0". Of one that was compiled without proofs (`c/archive --unproved`)
- * " (not proved)" stands behind it. That one is other code: it keeps each check that a proof makes needless, is slower and
- * takes more stack for it, and stops the program where such a check fails. */
+/* Returns the version of the library as text: "0.1.0". If the library was compiled without proofs
+ * (`c/archive --unproved`), the text ends in " (not proved)". Such a library is other code. It keeps each check that a
+ * proof makes needless. So it is slower and takes more stack, and it stops the program if such a check fails. */
 const char *gorseplumb_version(void);
 
+/* The size of a page in bytes. */
 #define GORSEPLUMB_PAGE_SIZE 4096
 
-/* A machine, or none. { 0 } is none. */
+/* A machine, or no machine. { 0 } has no machine. */
 struct gorseplumb_machine {
     bool live;
     void *at;
 };
 
-/* A list of pages that are lent, or none. { 0 } is none. */
+/* A list of lent pages, or no list. { 0 } has no list. */
 struct gorseplumb_lent {
     bool live;
     void *at;
 };
 
-/* A page's memory of 4096 bytes, or none. { 0 } is none. C gives a page by writing both fields: `live`, and the address
- * in `at`. The library takes no alignment of it for granted, so it may begin at any byte. Where a processor walks the
- * tables it begins at a multiple of 4096, since page i of the list has to stand at RAM's base + 4096 * i. */
+/* The memory of one page, which is 4096 bytes, or no page. { 0 } has no page. C puts a page into the slot by writing
+ * both fields: true to `live`, and the address to `at`. The library does not require any alignment, so the page may
+ * begin at any byte. But if a processor walks the tables, the page must begin at a multiple of 4096. The reason is that
+ * page i of the list must be at RAM's base + 4096 * i. */
 struct gorseplumb_slot {
     bool live;
     void *at;
 };
 
-/* Memory of pages that stand side by side, 4096 bytes each, or of none. { 0 } is none. C gives pages by writing both
- * fields: the address of the first, and how many there are. Where there are none, `at` isn't looked at. Alignment is as
- * of one page. */
+/* The memory of adjacent pages, 4096 bytes each, or no page. { 0 } has no page. C puts pages into the span by writing
+ * both fields: the address of the first page to `at`, and the number of pages to `pages`. If this number is 0, the
+ * library does not look at `at`. The alignment is as in struct gorseplumb_slot. */
 struct gorseplumb_span {
     void *at;
     size_t pages;
 };
 
-/* The library's memory: it asks these three functions for all of it, and the program defines them. heap.c has them over
- * malloc, array.c over an array. They are called while a call of the library is on its way, and may not call it. Where
- * calls on two machines overlap, so may theirs, and heap.c is as safe there as malloc is. array.c isn't safe there. */
+/* A block of memory for the library, or no memory. The library takes all its memory by the next three functions, and
+ * your program defines them. heap.c has them over malloc, and array.c has them over an array. The library calls them
+ * while a call of the library is in progress, and they may not call the library. If calls on two machines overlap,
+ * calls of these functions can overlap too. heap.c is then as safe as malloc, and array.c is not safe. */
 struct gorseplumb_block {
     bool ok;  /* whether there is memory */
-    void *at; /* where it is; where there is none an address that isn't followed. It is never null */
+    void *at; /* the address of the memory, which is never null. If there is no memory, nobody follows this address */
 };
 
-/* A new block of at least `size` bytes, which may be 0, at a multiple of `align`, which is a power of two up to 16. It
- * overlaps no other block that is there, and is the library's alone until it is given back. Or there is no memory. */
+/* Returns a new block of at least `size` bytes at a multiple of `align`. If there is no memory, `ok` is false. `size`
+ * may be 0. `align` is a power of two, and is at most 16. The block overlaps no other block that exists. Only the
+ * library uses it until the library gives it back. */
 struct gorseplumb_block rattle_alloc(size_t size, size_t align);
 
-/* Makes of a block that one of these two gave one of at least `size` bytes, there or elsewhere, as rattle_alloc gives
- * one: its first `kept` bytes, which the old and the new one have, are as they were, and the old block is no more. Or
- * there is no memory, and the old block is as it was. */
+/* Replaces a block that rattle_alloc or rattle_realloc returned, and returns a block of at least `size` bytes. The new
+ * block is at the same place or elsewhere, and is otherwise as rattle_alloc returns one. Both blocks have at least
+ * `kept` bytes, and the first `kept` bytes stay the same. The old block no longer exists. But if there is no memory,
+ * `ok` is false, and the old block stays as it was. */
 struct gorseplumb_block rattle_realloc(void *block, size_t kept, size_t size, size_t align);
 
-/* Takes a block back that one of these two gave. */
+/* Takes back a block that rattle_alloc or rattle_realloc returned. */
 void rattle_dealloc(void *block);
 
-/* The program defines this one too; without it no program links. It tells what has to be settled: the tables of an
- * endpoint, by its identifier; the address of the first page; and the size of all pages in bytes, or 0 where the page at
- * this address was filled with zeros. Only a machine in lent RAM calls it. Where no processor walks the tables it may do
- * nothing, as that of unsettled.c. Where one does, it is firmware's own. When it returns, all that the library has stored so far is seen by every processor and
- * every walk of tables, and no processor holds a translation, for an address of these pages, that came of this
- * endpoint's tables as they were before. On AArch64 that is DSB ISHST; then with the endpoint's VMID in VTTBR_EL2 TLBI
- * IPAS2E1IS of each page, DSB ISH, TLBI VMALLE1IS; and last DSB ISH and ISB. With a size of 0 the first DSB is all of
- * it. With the RAM's address and a size of 2^32, as at the end of each boot, it is of all that came of this endpoint's
- * tables: TLBI VMALLS12E1IS. It is called while an operation or a boot is on its way, under the lock of that, and may
- * not call the library. docs/CONCURRENCY.md says when. */
+/* Settles writes of the library. Your program defines this function, and without it your program does not link. The
+ * library passes the identifier of an endpoint, the address of the first page, and the size of all pages in bytes. The
+ * size is 0 if the library has filled the page at this address with zeros. Only a machine in lent RAM calls the
+ * function. This happens while an operation, a boot or a copy is in progress, under the lock of that call. The function
+ * may not call the library. docs/CONCURRENCY.md says when the library calls it.
+ *
+ * If no processor walks the tables, the function may do nothing, as in unsettled.c. Otherwise the function is your
+ * firmware's own, and two things must be true when it returns. First, every processor and every walk of tables sees all
+ * that the library has stored so far. Second, for the addresses of these pages, no processor holds a translation that
+ * results from this endpoint's tables as they were before.
+ *
+ * On AArch64, execute DSB ISHST. Then, with the endpoint's VMID in VTTBR_EL2, execute TLBI IPAS2E1IS for each page, DSB
+ * ISH, and TLBI VMALLE1IS. Last, execute DSB ISH and ISB. If the size is 0, only the first DSB is necessary. At the end
+ * of each boot, the library passes RAM's address and a size of 2^32. With these two, the request is for all
+ * translations that result from this endpoint's tables: execute TLBI VMALLS12E1IS. */
 void gorseplumb_settle(uint16_t endpoint, uint64_t address, uint64_t size);
 
 /* Registers x0 to x7. */
@@ -121,30 +150,32 @@ struct gorseplumb_registers {
     uint64_t x[8];
 };
 
+/* The kind of an outcome. */
 enum gorseplumb_kind {
     GORSEPLUMB_KIND_REGISTERS = 0,  /* `runner` runs next and sees the registers `x` */
-    GORSEPLUMB_KIND_DATA = 1,       /* `value` is what was loaded or fetched, the lowest byte first */
-    GORSEPLUMB_KIND_DONE = 2,       /* a store was done */
+    GORSEPLUMB_KIND_DATA = 1,       /* `value` has the bytes that the access loaded or fetched, the lowest byte first */
+    GORSEPLUMB_KIND_DONE = 2,       /* a store was done; or, for gorseplumb_interrupt, nothing has changed */
     GORSEPLUMB_KIND_FAULT = 3,      /* `value` is an enum gorseplumb_fault */
     GORSEPLUMB_KIND_NO_MACHINE = 4, /* there is no machine, and nothing was done */
-    GORSEPLUMB_KIND_BAD_SIZE = 5,   /* the size is none of 1, 2, 4 and 8, or of gorseplumb_run the kind is unknown, with a
-                                     * machine or without one, and nothing was done */
-    GORSEPLUMB_KIND_RESUMED = 7     /* `runner` runs next and goes on where an interrupt stopped it, with its own registers: `x`
-                                     * is zeros, and isn't for it */
+    GORSEPLUMB_KIND_BAD_SIZE = 5,   /* the size is not 1, 2, 4 or 8, or gorseplumb_run does not know the kind, and nothing
+                                     * was done. This is the answer with a machine and without one */
+    GORSEPLUMB_KIND_RESUMED = 7     /* `runner` runs next and continues where an interrupt stopped it, with its own
+                                     * registers. `x` is zeros, and is not for the runner */
 };
 
+/* The fault of an access. */
 enum gorseplumb_fault {
-    GORSEPLUMB_FAULT_TRANSLATION = 1,
-    GORSEPLUMB_FAULT_PERMISSION = 2,
-    GORSEPLUMB_FAULT_ALIGNMENT = 3,
-    GORSEPLUMB_FAULT_ACCESS_FLAG = 4,
-    GORSEPLUMB_FAULT_OUTSIDE_RAM = 5
+    GORSEPLUMB_FAULT_TRANSLATION = 1, /* no descriptor maps the address */
+    GORSEPLUMB_FAULT_PERMISSION = 2,  /* the descriptor lacks the right */
+    GORSEPLUMB_FAULT_ALIGNMENT = 3,   /* the address is not a multiple of the size of the access */
+    GORSEPLUMB_FAULT_ACCESS_FLAG = 4, /* the access flag of the descriptor is 0 */
+    GORSEPLUMB_FAULT_OUTSIDE_RAM = 5  /* the walk or the access leaves RAM */
 };
 
-/* What an operation gives. What its kind doesn't name is zero. */
+/* The outcome of an operation or of an interrupt. A field that the kind does not name is zero. */
 struct gorseplumb_outcome {
-    uint32_t kind;   /* enum gorseplumb_kind: it says which of the others are told */
-    uint32_t runner; /* an identifier */
+    uint32_t kind;   /* an enum gorseplumb_kind, which names the other fields that have a meaning */
+    uint32_t runner; /* the identifier of the endpoint that runs next */
     uint64_t value;
     uint64_t x[8];
 };
@@ -154,40 +185,44 @@ struct gorseplumb_page {
     uint8_t bytes[GORSEPLUMB_PAGE_SIZE];
 };
 
-/* Pages in a row that an endpoint owns from the start. */
+/* Adjacent pages that an endpoint owns from the start. */
 struct gorseplumb_region {
     uint32_t base;   /* the address of the first byte */
-    uint32_t pages;  /* how many */
-    uint32_t rights; /* to all of them: GORSEPLUMB_READ, GORSEPLUMB_WRITE with it, and GORSEPLUMB_EXECUTE with either */
+    uint32_t pages;  /* the number of pages */
+    uint32_t rights; /* the right to each page: GORSEPLUMB_READ or GORSEPLUMB_WRITE, with or without GORSEPLUMB_EXECUTE */
 };
 
-/* Rights. GORSEPLUMB_WRITE is two bits, since who may write may read. So of what gorseplumb_access answers, `access &
- * GORSEPLUMB_WRITE` is true too where a page may be read only, and where the answer is GORSEPLUMB_NOTHING. Compare that
- * one first, and then `(access & GORSEPLUMB_WRITE) == GORSEPLUMB_WRITE`. */
+/* Rights. GORSEPLUMB_WRITE has two bits, because an endpoint that may write may also read. So the test
+ * `access & GORSEPLUMB_WRITE` on an answer of gorseplumb_access is true for a page that may only be read, and for
+ * GORSEPLUMB_NOTHING. Compare the answer with GORSEPLUMB_NOTHING first, and then test
+ * `(access & GORSEPLUMB_WRITE) == GORSEPLUMB_WRITE`. */
 #define GORSEPLUMB_READ 1
 #define GORSEPLUMB_WRITE 3
 #define GORSEPLUMB_EXECUTE 4
 
+/* The most regions of an endpoint in a manifest, and the most endpoints of a machine. */
 #define GORSEPLUMB_MOST_REGIONS 16
 #define GORSEPLUMB_MOST_ENDPOINTS 8
 
-/* The most blocks of RAM, and its most bytes, of which the base is a multiple in a text. A library for larger machines is the
- * same with another number of blocks, a power of two up to 512 (MOST_BLOCKS in crates/ffa_model/src/limits.rt). */
+/* The most blocks of RAM, and the most bytes of RAM. In a text, RAM's base must be a multiple of this number of bytes.
+ * A library for larger machines is the same with another number of blocks, a power of two up to 512 (MOST_BLOCKS in
+ * crates/ffa_model/src/limits.rt). */
 #define GORSEPLUMB_MOST_BLOCKS 32
 #define GORSEPLUMB_MOST_RAM (UINT32_C(0x200000) * GORSEPLUMB_MOST_BLOCKS)
 
-/* An endpoint of a machine. The first is the normal world, whose UUID is zeros. */
+/* An endpoint of a machine. The first endpoint is the normal world, and its UUID is zeros. */
 struct gorseplumb_endpoint {
-    uint32_t version;    /* the form of its descriptors: 0 is that of FF-A 1.1, 1 the compact one. 2 is that of FF-A 1.2,
-                          * and needs `ffa` 1. With `ffa` 1 an endpoint may change its form by FFA_VERSION */
-    uint32_t properties; /* as in a manifest's text: 1 receives direct requests, 2 sends them, 4 indirect messages, 8 notifications.
-                          * A partition with `version` 2 may also have 0x200 and 0x400: receives and sends second direct requests */
+    uint32_t version;    /* the form of its descriptors: 0 for FF-A 1.1, 1 for the compact form, and 2 for FF-A 1.2. 2 needs
+                          * `ffa` 1. With `ffa` 1, an endpoint can change its form by FFA_VERSION */
+    uint32_t properties; /* as in a manifest's text: 1 receives direct requests, 2 sends them, 4 sends and receives
+                          * indirect messages, 8 receives notifications. A partition with `version` 2 may also have
+                          * 0x200, which receives second direct requests, and 0x400, which sends them */
     uint8_t uuid[16];
-    uint32_t region_count; /* of `regions`, from the first on; what stands behind is not read */
+    uint32_t region_count; /* the number of `regions`, from the first on. The library does not read the places after them */
     struct gorseplumb_region regions[GORSEPLUMB_MOST_REGIONS];
 };
 
-/* The version of FF-A that a machine serves, from its boot on. */
+/* The version of FF-A that a machine serves from its boot on. */
 enum gorseplumb_ffa {
     GORSEPLUMB_FFA_1_1 = 0,
     GORSEPLUMB_FFA_1_2 = 1
@@ -196,38 +231,41 @@ enum gorseplumb_ffa {
 /* A manifest as numbers. */
 struct gorseplumb_manifest {
     uint32_t ram_base;       /* the address of RAM's first byte: a multiple of 0x200000, but not 0 */
-    uint32_t ram_blocks;     /* of 2 MiB each, from 1 to GORSEPLUMB_MOST_BLOCKS, all in one GiB (no multiple of 2^30 inside) */
-    uint32_t endpoint_count; /* of `endpoints`, from the first on; what stands behind is not read */
+    uint32_t ram_blocks;     /* the number of blocks of 2 MiB, from 1 to GORSEPLUMB_MOST_BLOCKS. All blocks are in one GiB:
+                              * no multiple of 2^30 is inside RAM */
+    uint32_t endpoint_count; /* the number of `endpoints`, from the first on. The library does not read the places after them */
     struct gorseplumb_endpoint endpoints[GORSEPLUMB_MOST_ENDPOINTS];
-    uint32_t ffa; /* an enum gorseplumb_ffa: 0 is FF-A 1.1, and all memory is alike. 1 is FF-A 1.2: memory of the first endpoint's
-                   * regions is non-secure, and all other memory is secure (docs/MEMORY.md). No text says it: a text that is
-                   * booted or read is one of FF-A 1.1, so no endpoint has version 2 there */
-    uint32_t tables; /* the first page of the endpoints' tables, counted from RAM's first, which is 0: they are in a row from there, 2 +
-                      * ram_blocks pages for each endpoint, and regions may lie before them and behind; no text says it */
+    uint32_t ffa; /* an enum gorseplumb_ffa. 0 is FF-A 1.1, and all memory is alike. 1 is FF-A 1.2: memory of the first
+                   * endpoint's regions is non-secure, and all other memory is secure (docs/MEMORY.md). A text has no key
+                   * for this number. A text that you boot or read is for FF-A 1.1, so no endpoint has version 2 there */
+    uint32_t tables; /* the first page of the endpoints' tables. RAM's first page is 0. From this page on, each endpoint has
+                      * 2 + ram_blocks pages, one endpoint after the other. Regions may be before and after them. A text
+                      * has no key for this number */
 };
 
-/* What boots, copies, gorseplumb_end and functions of lists answer. None is an error code of FF-A, which a call answers in its
- * registers. */
+/* The answer of a boot, a copy, an end, an audit, a function that reads or explains a manifest, or a function of lists.
+ * No answer is an error code of FF-A: a call has its error code in its registers. */
 enum gorseplumb_answer {
-    GORSEPLUMB_OK = 0,
+    GORSEPLUMB_OK = 0,        /* it was done */
     GORSEPLUMB_NO_MEMORY = 1, /* an allocation was refused */
 
-    /* The manifest is refused: the first cause that applies, as docs/MANIFEST.md numbers them (M2 to M14, and below M25). */
-    GORSEPLUMB_MANIFEST_TOML = 2,            /* the text is no TOML, or no UTF-8 */
-    GORSEPLUMB_MANIFEST_UNKNOWN_KEY = 3,     /* a key that its table doesn't have */
+    /* The library rejects the manifest, and this is the first cause that applies. docs/MANIFEST.md has these causes by
+     * their numbers: M2 to M14, and M25 for the last one below. */
+    GORSEPLUMB_MANIFEST_TOML = 2,            /* the text is not TOML, or not UTF-8 */
+    GORSEPLUMB_MANIFEST_UNKNOWN_KEY = 3,     /* a table has a key that is not one of its keys */
     GORSEPLUMB_MANIFEST_MISSING_KEY = 4,     /* a table lacks one of its keys */
     GORSEPLUMB_MANIFEST_WRONG_KIND = 5,      /* a value of another kind, unknown rights, or `ffa` that is neither 0 nor 1 */
-    GORSEPLUMB_MANIFEST_RAM_BASE = 6,        /* 0, or no multiple of 0x200000; in a text, of GORSEPLUMB_MOST_RAM, or with no room for that many bytes below 4 GiB */
+    GORSEPLUMB_MANIFEST_RAM_BASE = 6,        /* 0, or not a multiple of 0x200000. In a text, also not a multiple of GORSEPLUMB_MOST_RAM, or without room for that number of bytes below 4 GiB */
     GORSEPLUMB_MANIFEST_RAM_BLOCKS = 7,      /* not from 1 to GORSEPLUMB_MOST_BLOCKS, or not in one GiB */
     GORSEPLUMB_MANIFEST_ENDPOINT_COUNT = 8,  /* not from 1 to 8 */
-    GORSEPLUMB_MANIFEST_UUID = 9,            /* can't be read, zeros for a partition, or other than zeros for the normal world */
-    GORSEPLUMB_MANIFEST_PROPERTY = 10,       /* a bit that the endpoint may not have, or the normal world is to receive */
+    GORSEPLUMB_MANIFEST_UUID = 9,            /* not a UUID, zeros for a partition, or other than zeros for the normal world */
+    GORSEPLUMB_MANIFEST_PROPERTY = 10,       /* a bit that the endpoint may not have. The normal world may not have bit 0 or bit 3, by which an endpoint receives */
     GORSEPLUMB_MANIFEST_REGION_COUNT = 11,   /* not from 1 to 16 */
-    GORSEPLUMB_MANIFEST_REGION_OUTSIDE = 12, /* not whole pages in RAM that are none of the tables', or no page */
-    GORSEPLUMB_MANIFEST_REGION_OVERLAP = 13, /* has a page of a region before it */
-    GORSEPLUMB_MANIFEST_VERSION = 14,        /* an unknown version, or that of FF-A 1.2 on a machine of FF-A 1.1 */
+    GORSEPLUMB_MANIFEST_REGION_OUTSIDE = 12, /* a region that is not whole pages in RAM, has a page of the tables, or has no page */
+    GORSEPLUMB_MANIFEST_REGION_OVERLAP = 13, /* a region that has a page of an earlier region */
+    GORSEPLUMB_MANIFEST_VERSION = 14,        /* an unknown version, or the version of FF-A 1.2 on a machine of FF-A 1.1 */
 
-    GORSEPLUMB_OCCUPIED = 15,   /* what is to be made, or to be filled, is there already */
+    GORSEPLUMB_OCCUPIED = 15,   /* there is already a machine, a list or a page */
     GORSEPLUMB_NO_LIST = 16,    /* there is no list */
     GORSEPLUMB_NO_PAGE = 17,    /* there is no page in the slot, in the span or in the list */
     GORSEPLUMB_HAS_PAGES = 18,  /* the list has pages still */
@@ -235,108 +273,154 @@ enum gorseplumb_answer {
     GORSEPLUMB_WRONG_COUNT = 20, /* the list has more pages than the machine's RAM, or fewer */
     GORSEPLUMB_NOT_CERTIFIED = 21, /* the tables don't give what the runs say */
     GORSEPLUMB_LENT = 22,          /* the machine's RAM is lent: gorseplumb_end gives it back */
-    GORSEPLUMB_BAD_BASE = 23,      /* RAM of so many pages can't stand at the address */
-    GORSEPLUMB_BAD_ROOTS = 24,     /* there are more than endpoints of a machine, or one is at no page of RAM */
+    GORSEPLUMB_BAD_BASE = 23,      /* RAM of this size cannot begin at this address */
+    GORSEPLUMB_BAD_ROOTS = 24,     /* there are more roots than endpoints of a machine, or a root is not a page of RAM */
 
-    GORSEPLUMB_MANIFEST_TABLES_OUTSIDE = 25 /* RAM hasn't all tables from the page on that `tables` tells */
+    GORSEPLUMB_MANIFEST_TABLES_OUTSIDE = 25 /* RAM does not have all tables from the page `tables` on */
 };
 
-/* What a question that asks for a number answers where there is no machine, gorseplumb_owner also where there is no
- * such page, and gorseplumb_root where there is no such endpoint. */
+/* The answer of a question for a number if there is no machine. gorseplumb_owner also returns it if there is no such
+ * page, and gorseplumb_root if there is no such endpoint. */
 #define GORSEPLUMB_NOTHING UINT32_C(0xFFFFFFFF)
 
-/* Makes the machine of a manifest's text of `size` bytes, in its first state, with RAM from the heap. GORSEPLUMB_OK:
- * there was none, the text describes a machine, and this is its first state. Else nothing has changed:
- * GORSEPLUMB_OCCUPIED, GORSEPLUMB_NO_MEMORY, or the cause for which the text is refused, which is the first in the
- * order of reading. */
+/* Boots the machine that a manifest's text of `size` bytes describes, with RAM from the heap. Returns GORSEPLUMB_OK if
+ * there was no machine, the text describes a machine, and `machine` now has it in its first state. Returns
+ * GORSEPLUMB_OCCUPIED if there is a machine. Otherwise it returns the cause for which the library rejects the text,
+ * which is the first one in the order of reading, or GORSEPLUMB_NO_MEMORY. If the answer is not GORSEPLUMB_OK, nothing
+ * has changed. */
 enum gorseplumb_answer gorseplumb_boot(struct gorseplumb_machine *machine, const uint8_t *text, size_t size);
 
-/* The same of a manifest as numbers, for which no memory is needed but the machine's own and its RAM. Refused first, in
- * this order: more endpoints than places; then for each endpoint an unknown version, more regions than places, unknown
- * rights; then `ffa` that is neither 0 nor 1 (GORSEPLUMB_MANIFEST_WRONG_KIND). After that come the causes of a text, in
- * the order in which it would be read, with GORSEPLUMB_MANIFEST_TABLES_OUTSIDE behind the count of endpoints. There an
- * endpoint with version 2 is refused if `ffa` is 0 (GORSEPLUMB_MANIFEST_VERSION). */
+/* Boots the machine of a manifest as numbers, with RAM from the heap. The boot takes memory only for the machine and
+ * its RAM. Returns GORSEPLUMB_OK if there was no machine, the numbers describe a machine, and `machine` now has it in
+ * its first state. Returns GORSEPLUMB_OCCUPIED if there is a machine. Otherwise it returns GORSEPLUMB_NO_MEMORY, or the
+ * first cause that applies in this order. First, there may not be more endpoints than places
+ * (GORSEPLUMB_MANIFEST_ENDPOINT_COUNT). Then each endpoint in turn must have a known version
+ * (GORSEPLUMB_MANIFEST_VERSION), not more regions than places (GORSEPLUMB_MANIFEST_REGION_COUNT), and known rights
+ * (GORSEPLUMB_MANIFEST_WRONG_KIND). Then `ffa` must be 0 or 1 (GORSEPLUMB_MANIFEST_WRONG_KIND). Then come the causes of
+ * a text, in the order in which gorseplumb_boot would read it. Among these, GORSEPLUMB_MANIFEST_TABLES_OUTSIDE comes
+ * after the count of endpoints. An endpoint with `version` 2 has the cause GORSEPLUMB_MANIFEST_VERSION there if `ffa`
+ * is 0. If the answer is not GORSEPLUMB_OK, nothing has changed. */
 enum gorseplumb_answer gorseplumb_boot_manifest(struct gorseplumb_machine *machine,
                                                 const struct gorseplumb_manifest *manifest);
 
-/* The same in RAM that is lent: the pages of the list, in order. GORSEPLUMB_OK: the list is empty then, and all pages
- * but the tables' are zeros. Else nothing has changed: GORSEPLUMB_OCCUPIED, GORSEPLUMB_NO_LIST, GORSEPLUMB_NO_MEMORY,
- * a cause as above, or GORSEPLUMB_WRONG_COUNT, where the pages aren't as many as the manifest's RAM has (512 for each
- * block). The machine's memory is the list's: of numbers a boot takes none, so GORSEPLUMB_NO_MEMORY comes only where
- * the list lacks some, since it has more pages than it was begun for, or another machine that was booted in it has
- * that. While a text is read memory is taken, and given back. */
+/* Boots the machine that a manifest's text of `size` bytes describes, in lent RAM: the pages of the list, in order. It
+ * clears all pages except the pages of the tables. It takes memory while it reads the text, and gives this memory back.
+ * The list has the memory for the machine. Returns GORSEPLUMB_OK if there was no machine, `machine` now has the machine
+ * in its first state, and the list is empty. Returns GORSEPLUMB_OCCUPIED if there is a machine, and then
+ * GORSEPLUMB_NO_LIST if there is no list. Otherwise it returns the cause for which gorseplumb_boot rejects the text, or
+ * GORSEPLUMB_WRONG_COUNT if the manifest's RAM has more pages than the list, or fewer. RAM has 512 pages for each
+ * block. Or it returns GORSEPLUMB_NO_MEMORY: while it reads the text, or if the list lacks memory as in
+ * gorseplumb_boot_lent_manifest. If the answer is not GORSEPLUMB_OK, nothing has changed. */
 enum gorseplumb_answer gorseplumb_boot_lent(struct gorseplumb_machine *machine, struct gorseplumb_lent *lent,
                                             const uint8_t *text, size_t size);
+
+/* Boots the machine of a manifest as numbers in lent RAM, like gorseplumb_boot_lent for a text. It takes no memory if
+ * the list has the memory for the machine. Returns GORSEPLUMB_OK as gorseplumb_boot_lent does. Returns
+ * GORSEPLUMB_OCCUPIED if there is a machine, and then GORSEPLUMB_NO_LIST if there is no list. Otherwise it returns a
+ * cause of gorseplumb_boot_manifest, GORSEPLUMB_WRONG_COUNT as gorseplumb_boot_lent does, or GORSEPLUMB_NO_MEMORY. It
+ * returns GORSEPLUMB_NO_MEMORY only if the list lacks memory. Then the list has more pages than it was begun for, or
+ * another machine that was booted in the list has this memory. If the answer is not GORSEPLUMB_OK, nothing has
+ * changed. */
 enum gorseplumb_answer gorseplumb_boot_lent_manifest(struct gorseplumb_machine *machine, struct gorseplumb_lent *lent,
                                                      const struct gorseplumb_manifest *manifest);
 
-/* The same, but pages of the manifest's regions keep the bytes that they are lent with: an image of a partition or of a
- * kernel that was put there is there before the first operation, and a region that nobody may write to can have any
- * bytes. All others but the tables' are zeros, and whatever stood where the tables are built is gone. A boot
- * that is refused changes no byte. */
+/* Boots the machine that a manifest's text describes in lent RAM, like gorseplumb_boot_lent, but keeps the bytes of
+ * pages in the manifest's regions. So an image of a partition or of a kernel that you put there is there before the
+ * first operation. A region that nobody may write to can have any bytes. All other pages are zeros, except the pages of
+ * the tables. The tables replace all bytes that were in their pages. Returns what gorseplumb_boot_lent returns, in the
+ * same order. If the answer is not GORSEPLUMB_OK, nothing has changed, and no byte of a page has changed. */
 enum gorseplumb_answer gorseplumb_boot_preloaded(struct gorseplumb_machine *machine, struct gorseplumb_lent *lent,
                                             const uint8_t *text, size_t size);
+
+/* Boots the machine of a manifest as numbers in lent RAM, and keeps the bytes of pages in the manifest's regions, like
+ * gorseplumb_boot_preloaded for a text. Returns what gorseplumb_boot_lent_manifest returns, in the same order and with
+ * GORSEPLUMB_NO_MEMORY only as there. If the answer is not GORSEPLUMB_OK, nothing has changed, and no byte of a page
+ * has changed. */
 enum gorseplumb_answer gorseplumb_boot_preloaded_manifest(struct gorseplumb_machine *machine, struct gorseplumb_lent *lent,
                                                      const struct gorseplumb_manifest *manifest);
 
-/* Makes the same machine as `original` once more, with RAM from the heap, whichever RAM that one has: for a test that
- * tries several operations from one state, or a checkpoint. GORSEPLUMB_OK: there was none, and now each operation gives
- * what it gives in `original`, since all is the same: the state, every byte of RAM, who runs on each processor and
- * which one is selected, what is to be told of access that changed and what the normal world has been told of. From
- * then on neither changes the other. Else nothing has changed, the first that applies: GORSEPLUMB_OCCUPIED;
- * GORSEPLUMB_NO_MACHINE, where there is none to copy; or GORSEPLUMB_NO_MEMORY. To `original` it is a question. Where
- * its RAM is lent, nobody may write there meanwhile: what would be copied of such bytes is not said. */
+/* Copies the machine of `original` to `machine`, with RAM from the heap, whichever RAM `original` has. Use the copy as
+ * a checkpoint, or in a test that tries several operations from one state. Returns GORSEPLUMB_OK if `machine` had no
+ * machine, and now has the copy. Each operation then gives in the copy what it gives in `original`, because all is the
+ * same. This includes the state, every byte of RAM, the runner of each processor, the selected processor, the report of
+ * changed access, and the notifications that the normal world already knows. From then on, neither machine changes the
+ * other. Otherwise it returns the first answer that applies: GORSEPLUMB_OCCUPIED if `machine` has a machine,
+ * GORSEPLUMB_NO_MACHINE if `original` has no machine, or GORSEPLUMB_NO_MEMORY. Then nothing has changed. For `original`
+ * the copy is a question. If its RAM is lent, nobody may write there during the copy. Otherwise this header does not
+ * say which of these bytes the copy has. */
 enum gorseplumb_answer gorseplumb_copy(struct gorseplumb_machine *machine, const struct gorseplumb_machine *original);
 
-/* The same in RAM that is lent: the pages of the list, in order, of which it writes every byte, and which is empty then. It
- * settles as a boot does. The first that applies: GORSEPLUMB_OCCUPIED, GORSEPLUMB_NO_LIST, GORSEPLUMB_NO_MACHINE,
- * GORSEPLUMB_WRONG_COUNT, where the pages aren't as many as the RAM of `original` has (512 for each block, of which
- * gorseplumb_ram_blocks tells the number), or GORSEPLUMB_NO_MEMORY, which comes only where a boot from numbers in the list
- * may be answered it. Back to where it came from a machine gets by a copy of the copy, in the pages that gorseplumb_end
- * has given back. A copy's tables have the addresses of its RAM, as those of `original` have: no processor walks them
- * where its pages stand elsewhere. */
+/* Copies the machine of `original` to `machine`, like gorseplumb_copy, but into lent RAM: the pages of the list, in
+ * order. It writes every byte of these pages, and settles as a boot does. Returns GORSEPLUMB_OK as gorseplumb_copy
+ * does, and the list is empty then. Otherwise it returns the first answer that applies: GORSEPLUMB_OCCUPIED if
+ * `machine` has a machine, GORSEPLUMB_NO_LIST, GORSEPLUMB_NO_MACHINE if `original` has no machine,
+ * GORSEPLUMB_WRONG_COUNT, or GORSEPLUMB_NO_MEMORY. GORSEPLUMB_WRONG_COUNT means that the RAM of `original` has more
+ * pages than the list, or fewer. RAM has 512 pages for each block, and gorseplumb_ram_blocks returns the number of
+ * blocks. GORSEPLUMB_NO_MEMORY comes only if a boot from numbers in this list may return it. If the answer is not
+ * GORSEPLUMB_OK, nothing has changed. To bring a machine back to where it came from, copy its copy into the pages that
+ * gorseplumb_end gave back. The tables of a copy have the addresses of its RAM, which are the addresses of the RAM of
+ * `original`. So if the pages of the copy are elsewhere, no processor walks its tables. */
 enum gorseplumb_answer gorseplumb_copy_lent(struct gorseplumb_machine *machine, struct gorseplumb_lent *lent,
                                             const struct gorseplumb_machine *original);
 
-/* Reads a manifest's text of `size` bytes into numbers, which a boot would go by, so that RAM can be lent that has the
- * size which the text describes. GORSEPLUMB_OK: `manifest` gives what the text describes, `ffa` and `tables` are 0,
- * and what stands behind the endpoints and regions that it counts is zeros. Else `manifest` stays: GORSEPLUMB_NO_MEMORY,
- * since reading takes memory, all of which it gives back, or the cause for which gorseplumb_boot would refuse the text. */
+/* Reads a manifest's text of `size` bytes into numbers from which you can boot. So you can lend RAM of the size that
+ * the text describes. It takes memory while it reads, and gives all of it back. Returns GORSEPLUMB_OK if `manifest` now
+ * gives what the text describes. `ffa` and `tables` are 0 then, and all is zeros after the endpoints and the regions
+ * that are counted. Otherwise it returns GORSEPLUMB_NO_MEMORY, or the cause for which gorseplumb_boot would reject the
+ * text. Then `manifest` stays as it was. */
 enum gorseplumb_answer gorseplumb_read_manifest(const uint8_t *text, size_t size, struct gorseplumb_manifest *manifest);
 
-/* Why a manifest is refused, and where. No byte lies between the fields. */
+/* Why the library rejects a manifest, and where. There is no padding between the fields. */
 struct gorseplumb_refusal {
     uint32_t cause;    /* an enum gorseplumb_answer: GORSEPLUMB_MANIFEST_TOML and so on */
-    uint32_t endpoint; /* the identifier of the endpoint that is refused; GORSEPLUMB_NOTHING where something else is */
-    uint64_t region;   /* the endpoint's region, counted from 1; 0 where none is refused */
-    uint64_t line;     /* of a text that is no UTF-8 or no TOML: the line in which it ceases to be, counted from 1; else 0 */
-    uint64_t column;   /* and the character in that line, counted from 1; else 0 */
-    uint64_t words;    /* how many bytes the words have that say it; 0 of numbers */
+    uint32_t endpoint; /* the identifier of the endpoint at fault; GORSEPLUMB_NOTHING if the fault is elsewhere */
+    uint64_t region;   /* the endpoint's region at fault, counted from 1; 0 if the fault is not in a region */
+    uint64_t line;     /* for a text that is not UTF-8 or not TOML: the line where it ceases to be, counted from 1; otherwise 0 */
+    uint64_t column;   /* the character in this line, counted from 1; otherwise 0 */
+    uint64_t words;    /* the number of bytes of the words, without the NUL; 0 for numbers */
 };
 
-/* Why a boot refuses a manifest's text, where, and in words: what the program says of it with --verbose, as which key has
- * which value, and what it may be. GORSEPLUMB_OK: it describes a machine. GORSEPLUMB_NO_MEMORY, since it takes memory, all
- * of which it gives back. With either nothing is written; else the answer is the cause, `refusal` tells it, and `words`,
- * an array of `room` bytes, has as much of the words as there is room for, in UTF-8, and a NUL behind it. */
+/* Explains why a boot rejects a manifest's text of `size` bytes: where, and in words. The words are the words of the
+ * program with --verbose, such as which key has which value, and which values are allowed. The function takes memory,
+ * and gives all of it back. Returns GORSEPLUMB_OK if the text describes a machine, or GORSEPLUMB_NO_MEMORY. With either
+ * answer, it writes nothing. Otherwise it returns the cause, and writes the cause and the place to `refusal`. `words`
+ * is an array of `room` bytes. The function writes the words there in UTF-8, with a NUL after them. If there is too
+ * little room, it writes only their first bytes, and the NUL last. The bytes of `words` after the NUL stay as they
+ * were. */
 enum gorseplumb_answer gorseplumb_why_text(const uint8_t *text, size_t size, struct gorseplumb_refusal *refusal,
                                            uint8_t *words, size_t room);
 
-/* The same of a manifest as numbers, without words and without memory. GORSEPLUMB_OK: it is that of a machine, and
- * `refusal` stays. */
+/* Explains why a boot rejects a manifest as numbers, and where, without words. It takes no memory. Returns
+ * GORSEPLUMB_OK if the numbers describe a machine, and leaves `refusal` as it was. Otherwise it returns the cause for
+ * which gorseplumb_boot_manifest rejects the numbers, and writes the cause and the place to `refusal`. */
 enum gorseplumb_answer gorseplumb_why_manifest(const struct gorseplumb_manifest *manifest, struct gorseplumb_refusal *refusal);
 
-/* One operation of the endpoint that runs on the selected processor: a call with eight registers, a load of 1, 2, 4 or
- * 8 bytes, a store of the value's lowest bytes, as many as `size` says, and a fetch of one instruction. The outcome and
- * the machine's next state are those of the definition of the machine, and with them goes every promise that the
- * machine's own operations make (docs/THEOREMS.md). FFA_RUN of a partition that an interrupt had stopped lets it go on,
- * and answers GORSEPLUMB_KIND_RESUMED. A load and a store of another size answer GORSEPLUMB_KIND_BAD_SIZE, with a
- * machine or without one; every other operation answers GORSEPLUMB_KIND_NO_MACHINE where there is none. With either
- * nothing was done. */
+/* Does a call of the runner, which is the endpoint that runs on the selected processor, with eight registers. The
+ * outcome and the machine's next state are as in the definition of the machine. Every promise that the machine's own
+ * operations make also holds (docs/THEOREMS.md). Returns GORSEPLUMB_KIND_REGISTERS, also if the answer is FFA_ERROR.
+ * Returns GORSEPLUMB_KIND_RESUMED if the call is FFA_RUN of a partition that an interrupt stopped, and the partition
+ * continues. Returns GORSEPLUMB_KIND_NO_MACHINE if there is no machine, and nothing was done. A call with the answer
+ * FFA_ERROR changes nothing. */
 struct gorseplumb_outcome gorseplumb_call(struct gorseplumb_machine *machine, const struct gorseplumb_registers *registers);
+
+/* Does a load of the runner, of 1, 2, 4 or 8 bytes, with the promises of gorseplumb_call. Returns GORSEPLUMB_KIND_DATA
+ * with the bytes, or GORSEPLUMB_KIND_FAULT. Returns GORSEPLUMB_KIND_BAD_SIZE for another size, with a machine or
+ * without one. Then it returns GORSEPLUMB_KIND_NO_MACHINE if there is no machine. With these two answers, nothing was
+ * done. A load that faults changes nothing. */
 struct gorseplumb_outcome gorseplumb_load(struct gorseplumb_machine *machine, uint64_t address, uint32_t size);
+
+/* Does a store of the runner, with the promises of gorseplumb_call. It stores the lowest 1, 2, 4 or 8 bytes of the
+ * value, as `size` says. Returns GORSEPLUMB_KIND_DONE or GORSEPLUMB_KIND_FAULT. Returns GORSEPLUMB_KIND_BAD_SIZE for
+ * another size, with a machine or without one. Then it returns GORSEPLUMB_KIND_NO_MACHINE if there is no machine. With
+ * these two answers, nothing was done. A store that faults changes nothing. */
 struct gorseplumb_outcome gorseplumb_store(struct gorseplumb_machine *machine, uint64_t address, uint32_t size, uint64_t value);
+
+/* Does a fetch of one instruction by the runner, with the promises of gorseplumb_call. Returns GORSEPLUMB_KIND_DATA
+ * with the instruction, or GORSEPLUMB_KIND_FAULT. Returns GORSEPLUMB_KIND_NO_MACHINE if there is no machine, and
+ * nothing was done. A fetch that faults changes nothing. */
 struct gorseplumb_outcome gorseplumb_fetch(struct gorseplumb_machine *machine, uint64_t address);
 
+/* The kind of an operation in a list. */
 enum gorseplumb_operation_kind {
     GORSEPLUMB_OPERATION_CALL = 0,
     GORSEPLUMB_OPERATION_LOAD = 1,
@@ -344,7 +428,7 @@ enum gorseplumb_operation_kind {
     GORSEPLUMB_OPERATION_FETCH = 3
 };
 
-/* An operation in a list. What its kind doesn't name is not read. */
+/* An operation in a list. The library does not read a field that the kind does not use. */
 struct gorseplumb_operation {
     uint32_t kind;    /* enum gorseplumb_operation_kind */
     uint32_t size;    /* of a load and of a store */
@@ -353,117 +437,135 @@ struct gorseplumb_operation {
     uint64_t x[8];    /* of a call */
 };
 
-/* Operations one after another, each of the endpoint that runs then on the selected processor: as many as both lists
- * have places, which it answers. Each has the outcome of its own call above, and does what that does, so nothing of
- * what is promised of these is lost; an unknown kind is answered as an unknown size, by GORSEPLUMB_KIND_BAD_SIZE, and
- * the next operation is done. Places of `outcomes` behind those stay. */
+/* Does operations one after another, each for the endpoint that runs at that time on the selected processor. The number
+ * of operations is the lesser of `count` and `places`. Each operation does what its own function above does, and has
+ * the same outcome, so every promise of that function holds. Returns the number of operations, and writes their
+ * outcomes to `outcomes`. For an unknown kind, the outcome is as for an unknown size, GORSEPLUMB_KIND_BAD_SIZE, and the
+ * next operation is done. The other places of `outcomes` stay as they were. */
 size_t gorseplumb_run(struct gorseplumb_machine *machine, const struct gorseplumb_operation *operations, size_t count,
                       struct gorseplumb_outcome *outcomes, size_t places);
 
-/* How many processors may run endpoints of a machine: 0 to 7. */
+/* The number of processors that may run endpoints of a machine. Their numbers are 0 to 7. */
 #define GORSEPLUMB_MOST_PROCESSORS 8
 
-/* Selects a processor: operations, interrupts and questions are of whoever runs there, until another one is selected. True:
- * it is selected. False, and nothing has changed: there is no such processor, or no machine. Processor 0 is selected when a
- * machine has booted, and the normal world runs on all. So who has one processor needs no call of this.
- *
- * On each processor runs the normal world or a partition, and each partition on one at most. An operation is done in the
- * machine as the selected processor sees it, in which a partition that another one runs is busy, and the normal world,
- * which is on each, may call. */
+/* Selects a processor. From then on, until you select another processor, operations and interrupts are of the runner
+ * there, and questions are about the machine as this processor sees it. After a boot, processor 0 is selected, and the
+ * normal world runs on all processors. So with one processor you do not need this function. On each processor runs the
+ * normal world or a partition, and a partition runs on at most one processor. An operation is done in the machine as
+ * the selected processor sees it. There, a partition that another processor runs is busy. The normal world is on each
+ * processor, and may call on each. Returns true if the processor is selected. Returns false if there is no such
+ * processor or no machine, and then nothing has changed. */
 bool gorseplumb_select(struct gorseplumb_machine *machine, uint32_t processor);
 
-/* An interrupt that the selected processor takes and that the normal world is to handle. GORSEPLUMB_KIND_REGISTERS: a
- * partition ran there, and stops where it is, preempted; the normal world runs there and sees FFA_INTERRUPT, which names the
- * partition, whose registers firmware keeps until it goes on. GORSEPLUMB_KIND_DONE: the normal world runs there and takes the
- * interrupt by itself, and nothing changes. Else GORSEPLUMB_KIND_NO_MACHINE, and nothing was done. */
+/* Does what an interrupt does that the selected processor takes, and that the normal world must handle. Returns
+ * GORSEPLUMB_KIND_REGISTERS if a partition ran there. The partition stops where it is, and is preempted. The normal
+ * world runs there and sees FFA_INTERRUPT, which names the partition. Firmware keeps the partition's registers until
+ * the partition continues. Returns GORSEPLUMB_KIND_DONE if the normal world runs there. The normal world takes the
+ * interrupt by itself, and nothing changes. Returns GORSEPLUMB_KIND_NO_MACHINE if there is no machine, and nothing was
+ * done. */
 struct gorseplumb_outcome gorseplumb_interrupt(struct gorseplumb_machine *machine);
 
-/* Pages in a row. */
+/* Adjacent pages. */
 struct gorseplumb_range {
     uint64_t address; /* of the first byte */
     uint64_t size;    /* of all pages, in bytes */
 };
 
+/* The most ranges of a transaction, and of a report of changed access. */
 #define GORSEPLUMB_MOST_RANGES 64
 
-/* Whose access to which pages has changed. To each of them the endpoint had none before, or has none now. */
+/* A report of changed access: an endpoint, and pages. The endpoint had no access to each of these pages before, or has
+ * no access to it now. */
 struct gorseplumb_change {
     uint32_t endpoint;
-    uint32_t range_count; /* of `ranges`, from the first on; zeros stand behind them */
+    uint32_t range_count; /* the number of `ranges`, from the first on. The places after them are zeros */
     struct gorseplumb_range ranges[GORSEPLUMB_MOST_RANGES];
 };
 
-/* What the last call on memory that was done has changed of access, told once: true, and `change` says it. False, and
- * `change` stays: that call changed nobody's access, as a share, or was told before, or there was none, or there is no
- * machine. Asked behind each operation it tells all that this one changed, for an SMMU's tables, say: no other access
- * changed; what the access is now, gorseplumb_access answers. */
+/* Reports once whose access the last successful call on memory has changed, and to which pages. Call it after each
+ * operation, for example to update an SMMU's tables. It then reports all that this operation changed: no other access
+ * changed. gorseplumb_access returns the new access. Returns true, and writes the report to `change`. Returns false if
+ * that call changed nobody's access, as a share does, if its report was already read, if there was no such call, or if
+ * there is no machine. Then `change` stays as it was. */
 bool gorseplumb_take_change(struct gorseplumb_machine *machine, struct gorseplumb_change *change);
 
-/* Questions, which change nothing and write nothing to the machine. Those that answer a number answer
- * GORSEPLUMB_NOTHING where there is no machine.
- *
- * The endpoint that runs on the selected processor, and how many endpoints there are. */
+/* Questions: the functions from here to gorseplumb_read_page change nothing, and write nothing to the machine. */
+
+/* Returns the identifier of the endpoint that runs on the selected processor, or GORSEPLUMB_NOTHING if there is no
+ * machine. */
 uint32_t gorseplumb_runner(const struct gorseplumb_machine *machine);
+
+/* Returns the number of endpoints, or GORSEPLUMB_NOTHING if there is no machine. */
 uint32_t gorseplumb_endpoints(const struct gorseplumb_machine *machine);
 
-/* The address of RAM's first byte, and how many blocks of 2 MiB RAM has. */
+/* Returns the address of RAM's first byte, or GORSEPLUMB_NOTHING if there is no machine. */
 uint32_t gorseplumb_ram_base(const struct gorseplumb_machine *machine);
+
+/* Returns the number of RAM's blocks of 2 MiB, or GORSEPLUMB_NOTHING if there is no machine. */
 uint32_t gorseplumb_ram_blocks(const struct gorseplumb_machine *machine);
 
-/* The address of an endpoint's level 1 table, which VTTBR_EL2 takes while the endpoint runs. It stays the same as long
- * as the machine is there. GORSEPLUMB_NOTHING also where a machine has no such endpoint. */
+/* Returns the address of an endpoint's level 1 table, which VTTBR_EL2 needs while the endpoint runs. The address stays
+ * the same as long as there is the machine. Returns GORSEPLUMB_NOTHING if there is no machine, or if the machine has no
+ * such endpoint. */
 uint32_t gorseplumb_root(const struct gorseplumb_machine *machine, uint16_t endpoint);
 
-/* Who owns a page, which counts from RAM's first: an endpoint, or 0x8000, which is the manager. GORSEPLUMB_NOTHING:
- * there is no machine, or a machine without such a page; the answer doesn't tell which. */
+/* Returns the owner of a page, counted from RAM's first page, which is 0: the identifier of an endpoint, or 0x8000 for
+ * the manager. Returns GORSEPLUMB_NOTHING if there is no machine, or if the machine has no such page. The answer does
+ * not show which of the two it is. */
 uint32_t gorseplumb_owner(const struct gorseplumb_machine *machine, uint32_t page);
 
-/* What an endpoint may do with a page: 0 is nothing, 1 to read, 3 to write too, and 4 more to execute. It is 0 where a
- * machine has no such endpoint or page. GORSEPLUMB_NOTHING has all bits, so compare it before you look at one. */
+/* Returns what an endpoint may do with a page: 0 for nothing, 1 for reading, 3 for reading and writing, and 4 more for
+ * executing. Returns 0 if the machine has no such endpoint or page. Returns GORSEPLUMB_NOTHING if there is no machine.
+ * This number has all bits, so compare the answer with it before you look at a bit. */
 uint32_t gorseplumb_access(const struct gorseplumb_machine *machine, uint16_t endpoint, uint32_t page);
 
-/* By what an endpoint has its access to a page. */
+/* The ground on which an endpoint has its access to a page. */
 enum gorseplumb_grant_kind {
-    GORSEPLUMB_GRANT_NONE = 0,   /* it has none */
-    GORSEPLUMB_GRANT_OWN = 1,    /* the page is its own, and no open transaction names it */
-    GORSEPLUMB_GRANT_SHARED = 2, /* the page is its own, and it shares it by the open transaction `handle` */
-    GORSEPLUMB_GRANT_HELD = 3    /* it holds the open transaction `handle`, which names the page */
+    GORSEPLUMB_GRANT_NONE = 0,   /* the endpoint has no access */
+    GORSEPLUMB_GRANT_OWN = 1,    /* the endpoint owns the page, and no open transaction names the page */
+    GORSEPLUMB_GRANT_SHARED = 2, /* the endpoint owns the page, and shares it by the open transaction `handle` */
+    GORSEPLUMB_GRANT_HELD = 3    /* the endpoint holds the open transaction `handle`, which names the page */
 };
 
+/* The ground on which an endpoint has its access to a page, with the transaction. */
 struct gorseplumb_grant {
     uint32_t kind;   /* enum gorseplumb_grant_kind */
-    uint64_t handle; /* 0 where the kind names none */
+    uint64_t handle; /* 0 if the kind does not name a handle */
 };
 
-/* It is GORSEPLUMB_GRANT_NONE just where gorseplumb_access answers 0 or GORSEPLUMB_NOTHING. */
+/* Returns the ground on which an endpoint has its access to a page. Returns GORSEPLUMB_GRANT_NONE exactly if
+ * gorseplumb_access returns 0 or GORSEPLUMB_NOTHING, so also if there is no machine. */
 struct gorseplumb_grant gorseplumb_granted(const struct gorseplumb_machine *machine, uint16_t endpoint, uint32_t page);
 
-/* A run of a machine's certificate: the longest run of pages from its first on that have one owner, one open
- * transaction or none, and one access of each endpoint. */
+/* A run of a machine's certificate: adjacent pages with the same owner, the same open transaction or no transaction,
+ * and the same access of each endpoint. It is the longest such run from its first page on. */
 struct gorseplumb_cert_run {
-    uint32_t first;      /* pages count from RAM's first */
-    uint32_t last;
+    uint32_t first;      /* the first page; RAM's first page is 0 */
+    uint32_t last;       /* the last page */
     uint32_t owner;      /* 0x8000 is the manager */
-    uint32_t has_handle; /* 1 where the pages stand in the open transaction `handle`; else 0, and `handle` is 0 */
+    uint32_t has_handle; /* 1 if the pages are in the open transaction `handle`; otherwise 0, and `handle` is 0 */
     uint64_t handle;
-    uint32_t access[GORSEPLUMB_MOST_ENDPOINTS]; /* by place in the manifest, as gorseplumb_access answers; else 0 */
+    uint32_t access[GORSEPLUMB_MOST_ENDPOINTS]; /* by place in the manifest, as gorseplumb_access returns it; otherwise 0 */
 };
 
-/* The run from a page on: true. False: there is no machine, or a machine without such a page, and `run` stays. The runs
- * from page 0 on, each from behind the last of the one before, are the machine's certificate. */
+/* Finds the run from a page on. The runs from page 0 on, each after the last page of the run before, are the machine's
+ * certificate. Returns true, and writes the run to `run`. Returns false if there is no machine, or if the machine has
+ * no such page. Then `run` stays as it was. */
 bool gorseplumb_cert_run(const struct gorseplumb_machine *machine, uint32_t page, struct gorseplumb_cert_run *run);
 
-/* Whether an endpoint has a notification pending, which its next FFA_NOTIFICATION_GET of all classes would give it:
- * what its processor's interrupt is to be sent for, without a look at each call. False: there is none, no such
- * endpoint, or no machine. */
+/* Returns true if an endpoint has a pending notification, which its next FFA_NOTIFICATION_GET of all classes would
+ * return. Use it to send the endpoint's notification pending interrupt, without a look at each call. Returns false if
+ * no notification is pending, if there is no such endpoint, or if there is no machine. */
 bool gorseplumb_npi_pending(const struct gorseplumb_machine *machine, uint16_t endpoint);
 
-/* Whether the normal world's schedule receiver interrupt is to be pending: its next FFA_NOTIFICATION_INFO_GET would name an
- * endpoint. Always false on a machine of FF-A 1.1, which does not serve that call. False too: there is no machine. */
+/* Returns true if the normal world's schedule receiver interrupt must be pending: its next FFA_NOTIFICATION_INFO_GET
+ * would name an endpoint. Returns false if that call would name no endpoint, on each machine of FF-A 1.1, which does
+ * not serve that call, and if there is no machine. */
 bool gorseplumb_sri_pending(const struct gorseplumb_machine *machine);
 
-/* Copies the bytes of a page of RAM: true. False: there is no machine, or a machine without such a page, which the
- * answer doesn't tell apart, and `bytes` stays. */
+/* Copies the bytes of a page of RAM. Returns true, and writes the bytes to `bytes`. Returns false if there is no
+ * machine, or if the machine has no such page, and the answer does not show which of the two it is. Then `bytes` stays
+ * as it was. */
 bool gorseplumb_read_page(const struct gorseplumb_machine *machine, uint32_t page, struct gorseplumb_page *bytes);
 
 /* The checks of the calls. Each comment says what is wrong if the check fails, in the words of gorseplumb_check_name.
@@ -630,9 +732,9 @@ enum gorseplumb_obstacle {
     GORSEPLUMB_OBSTACLE_IN_TRANSACTION = 4 /* the page is in the open transaction with the handle `transaction` */
 };
 
-/* What to change after a refusal, in a hint: what numbers[0], numbers[1] and numbers[2] of the hint are. A right is
- * GORSEPLUMB_READ or GORSEPLUMB_WRITE, with or without GORSEPLUMB_EXECUTE. An endpoint is its identifier. A kind is 0 for
- * a share, 1 for a lend and 2 for a donate. */
+/* The kind of a hint, which says what to change after a refusal. Each comment says what numbers[0], numbers[1] and
+ * numbers[2] of the hint are. A right is GORSEPLUMB_READ or GORSEPLUMB_WRITE, with or without GORSEPLUMB_EXECUTE. An
+ * endpoint is its identifier. A kind is 0 for a share, 1 for a lend and 2 for a donate. */
 enum gorseplumb_hint_kind {
     GORSEPLUMB_HINT_NONE = 0,                      /* the reason has no hint */
     GORSEPLUMB_HINT_TX_PAGE = 1,                   /* the page is in TX of the endpoint numbers[0] */
@@ -670,14 +772,14 @@ enum gorseplumb_hint_kind {
     GORSEPLUMB_HINT_PAGES_OF_BOTH_WORLDS = 33      /* the page is secure, but another page is not */
 };
 
-/* What to change after a refusal. A number that the kind does not name is zero. */
+/* A hint what to change after a refusal. A number that the kind does not name is zero. */
 struct gorseplumb_hint {
     uint32_t kind; /* an enum gorseplumb_hint_kind */
     uint64_t numbers[3];
 };
 
-/* Why an operation is refused. A call has a `check`, and an access a `fault`. A field that the tags do not name is zero.
- * Only the hint has padding, 4 bytes after its kind. */
+/* Why an operation is refused. A call has a `check`, and an access a `fault`. A field that the tags do not name is
+ * zero. Only the hint has padding, 4 bytes after its kind. */
 struct gorseplumb_reason {
     uint32_t fault;       /* of an access: an enum gorseplumb_fault */
     uint32_t check;       /* of a call: an enum gorseplumb_check */
@@ -704,105 +806,128 @@ struct gorseplumb_reason {
     struct gorseplumb_hint hint; /* what to change, if that is known */
 };
 
-/* These four functions return true, and write to `reason`, if an operation of the runner would be refused now. They
- * return false, and leave `reason` as it is, if the operation would be done, if there is no machine, or if the size is
- * not 1, 2, 4 or 8. They change nothing else. A refused operation changes nothing, so a question right after it returns
- * why it was refused. In lent RAM that holds if nobody has written to the runner's TX since that call began. While
- * somebody writes to TX, these functions promise nothing, because they read TX where it is. gorseplumb_explain.h writes
- * a reason as a line of text. */
+/* Explains why a call of the runner would be refused now. A refused operation changes nothing, so a question right
+ * after it returns why it was refused. In lent RAM, this holds if nobody has written to the runner's TX since that call
+ * began. While somebody writes to TX, this function promises nothing, because it reads TX where it is.
+ * gorseplumb_explain.h writes a reason as a line of text. Returns true, and writes the reason to `reason`. Returns
+ * false if the call would be done, or if there is no machine. Then `reason` stays as it was. Nothing else changes. */
 bool gorseplumb_why_call(const struct gorseplumb_machine *machine, const struct gorseplumb_registers *registers,
                          struct gorseplumb_reason *reason);
+
+/* Explains why a load of the runner would be refused now, or was refused just before, as gorseplumb_why_call does for a
+ * call. Returns true, and writes the reason to `reason`. Returns false if the load would be done, if there is no
+ * machine, or if the size is not 1, 2, 4 or 8. Then `reason` stays as it was. Nothing else changes. */
 bool gorseplumb_why_load(const struct gorseplumb_machine *machine, uint64_t address, uint32_t size,
                          struct gorseplumb_reason *reason);
+
+/* Explains why a store of the runner would be refused now, or was refused just before, as gorseplumb_why_call does for
+ * a call. The value of the store does not matter. Returns true, and writes the reason to `reason`. Returns false if the
+ * store would be done, if there is no machine, or if the size is not 1, 2, 4 or 8. Then `reason` stays as it was.
+ * Nothing else changes. */
 bool gorseplumb_why_store(const struct gorseplumb_machine *machine, uint64_t address, uint32_t size,
                           struct gorseplumb_reason *reason);
+
+/* Explains why a fetch of the runner would be refused now, or was refused just before, as gorseplumb_why_call does for
+ * a call. Returns true, and writes the reason to `reason`. Returns false if the fetch would be done, or if there is no
+ * machine. Then `reason` stays as it was. Nothing else changes. */
 bool gorseplumb_why_fetch(const struct gorseplumb_machine *machine, uint64_t address, struct gorseplumb_reason *reason);
 
-/* The functions whose names end in _name return a text as the program prints it (docs/COMMANDS.md). They never return null,
- * and return "" if a number has no name. They need no machine and no memory. A linker drops the tables of names.c that
- * nobody asks for.
- *
- * Returns the name of a call in the standard, by the function identifier in w0 in either form: "FFA_RUN". */
+/* Names: the functions whose names end in _name return a text as the program prints it (docs/COMMANDS.md). They never
+ * return null, and return "" if a number has no name. They need no machine and no memory. They are C code, and not
+ * proved. A linker drops the tables of names.c that your program does not use. */
+
+/* Returns the name of a call in the standard, by the function identifier in w0 in either form: "FFA_RUN". */
 const char *gorseplumb_call_name(uint32_t function);
 
 /* Returns the name of an error code in the standard, by its number: "DENIED" for -6. */
 const char *gorseplumb_error_name(int32_t error);
 
-/* Returns what is wrong if a check fails, an enum gorseplumb_check: "the receiver is not waiting". */
+/* Returns the words of a check, an enum gorseplumb_check. They say what is wrong if the check fails:
+ * "the receiver is not waiting". */
 const char *gorseplumb_check_name(uint32_t check);
 
-/* Returns the number of a check in the list of a call, counted from 1, as docs/CALLS.md and docs/MEMORY.md list them; 0 if
- * the call does not make the check. */
+/* Returns the number of a check in the list of a call, counted from 1, as docs/CALLS.md and docs/MEMORY.md list them.
+ * Returns 0 if the call does not make the check. */
 uint32_t gorseplumb_check_number(uint32_t function, uint32_t check);
 
-/* Returns what is wrong with a descriptor, an enum gorseplumb_flaw: "the range has no pages". It does not say which access
- * descriptor or which range: `index` of the reason does. */
+/* Returns the words of a condition of a descriptor, an enum gorseplumb_flaw. They say what is wrong with the
+ * descriptor: "the range has no pages". They do not say which access descriptor or which range: `index` of the reason
+ * does. */
 const char *gorseplumb_flaw_name(uint32_t flaw);
 
 /* Returns the name of a fault, an enum gorseplumb_fault: "translation". */
 const char *gorseplumb_fault_name(uint32_t fault);
 
-/* Returns the name of an answer of a boot or of a function of lists, an enum gorseplumb_answer. A cause of a manifest has
- * the name that the program prints: "M6 RamBase". */
+/* Returns the name of an answer of a boot or of a function of lists, an enum gorseplumb_answer. A cause of a manifest
+ * has the name that the program prints: "M6 RamBase". */
 const char *gorseplumb_answer_name(uint32_t answer);
 
-/* Whether runs are a certificate that the machine's tables give: they follow one another from RAM's first page to its
- * last, none of them empty, and the walks from each endpoint's level 1 table, over the bytes of RAM alone, give at every
- * address below 4 GiB exactly the access that the runs say, and nothing outside RAM. No table tells owners and handles:
- * they are not looked at. GORSEPLUMB_OK or GORSEPLUMB_NOT_CERTIFIED; but GORSEPLUMB_NO_MACHINE, or GORSEPLUMB_NO_MEMORY,
- * since the runs are copied, in one piece, which is given back. The machine stays. */
+/* Checks whether runs are a certificate that the machine's tables give. The runs must follow one another from RAM's
+ * first page to its last, and no run may be empty. The walks from each endpoint's level 1 table read only the bytes of
+ * RAM. At every address below 4 GiB they must give exactly the access that the runs say, and outside RAM they must give
+ * no access. Tables do not have owners and handles, so the check does not look at these. The function copies the runs
+ * to one piece of memory, and gives this piece back. Returns GORSEPLUMB_OK, or GORSEPLUMB_NOT_CERTIFIED if the runs are
+ * no such certificate. If the runs are the machine's own certificate, GORSEPLUMB_NOT_CERTIFIED is never the answer.
+ * Returns GORSEPLUMB_NO_MACHINE if there is no machine, or GORSEPLUMB_NO_MEMORY. The machine stays as it was. */
 enum gorseplumb_answer gorseplumb_audit(const struct gorseplumb_machine *machine, const struct gorseplumb_cert_run *runs, size_t count);
 
-/* The checker alone, for who trusts no manager: the same of the tables that begin at `roots`, the addresses of level 1
- * tables by the endpoints' places, in RAM at the address `base` whose pages are those of the list, in order.
- * GORSEPLUMB_NO_LIST where there is no list; else GORSEPLUMB_BAD_BASE where `base` is no multiple of 4096, or so many
- * pages from there on would end above 4 GiB; else GORSEPLUMB_BAD_ROOTS where there are more roots than
- * GORSEPLUMB_MOST_ENDPOINTS, or one is not the address of a page of RAM; else GORSEPLUMB_OK, GORSEPLUMB_NOT_CERTIFIED or
- * GORSEPLUMB_NO_MEMORY. The list keeps its pages, with the bytes that they have, and where nothing is judged it is as it was. */
+/* Checks whether runs are a certificate that tables give, like gorseplumb_audit, but without a machine. Use it if you
+ * do not trust the software that wrote the tables. RAM begins at the address `base`, and its pages are the pages of the
+ * list, in order. `roots` has the addresses of the level 1 tables, by the endpoints' places. Returns GORSEPLUMB_NO_LIST
+ * if there is no list. Then it returns GORSEPLUMB_BAD_BASE if `base` is not a multiple of 4096, or if the pages from
+ * there on would end above 4 GiB. Then it returns GORSEPLUMB_BAD_ROOTS if there are more roots than
+ * GORSEPLUMB_MOST_ENDPOINTS, or if a root is not the address of a page of RAM. Otherwise it returns GORSEPLUMB_OK,
+ * GORSEPLUMB_NOT_CERTIFIED or GORSEPLUMB_NO_MEMORY. The list keeps its pages, with their bytes. With every answer
+ * except GORSEPLUMB_OK and GORSEPLUMB_NOT_CERTIFIED, the whole list stays as it was. */
 enum gorseplumb_answer gorseplumb_audit_tables(struct gorseplumb_lent *lent, uint32_t base, const uint32_t *roots, size_t root_count,
                                                const struct gorseplumb_cert_run *runs, size_t count);
 
-/* Ends the machine. RAM of the heap goes back to the heap, and `lent` stays as it is (it may be { 0 }). RAM that was
- * lent goes whole to `lent`, an empty list: every page, in order, with the bytes that it has; and so does the machine's
- * memory, so the next boot in these pages takes none, whichever endpoints it has, but for what a text takes while it is
- * read. GORSEPLUMB_OK: there is no machine any more. Else nothing has changed: GORSEPLUMB_NO_MACHINE, and where RAM was lent GORSEPLUMB_NO_LIST or GORSEPLUMB_HAS_PAGES. */
+/* Ends the machine. RAM from the heap goes back to the heap. Then `lent` stays as it was, and may be { 0 }. Lent RAM
+ * goes back to `lent`, which must be an empty list: every page, in order, with the bytes that it has. The machine's
+ * memory goes to this list too. So the next boot in these pages takes no memory, whichever endpoints it has, except
+ * while it reads a text. Returns GORSEPLUMB_OK if the machine has ended. Returns GORSEPLUMB_NO_MACHINE if there is no
+ * machine. For lent RAM, it returns GORSEPLUMB_NO_LIST if there is no list, or GORSEPLUMB_HAS_PAGES if the list has
+ * pages. If the answer is not GORSEPLUMB_OK, nothing has changed. */
 enum gorseplumb_answer gorseplumb_end(struct gorseplumb_machine *machine, struct gorseplumb_lent *lent);
 
-/* The same of a machine whose RAM is of the heap, without a list. GORSEPLUMB_OK: there is no machine any more. Else
- * nothing has changed: GORSEPLUMB_NO_MACHINE, or GORSEPLUMB_LENT, where RAM was lent and gorseplumb_end ends it. */
+/* Ends a machine whose RAM is from the heap, and needs no list. The RAM and the machine's memory go back to the heap.
+ * Returns GORSEPLUMB_OK if the machine has ended. Returns GORSEPLUMB_NO_MACHINE if there is no machine, or
+ * GORSEPLUMB_LENT if its RAM is lent, so that gorseplumb_end must end it. If the answer is not GORSEPLUMB_OK, nothing
+ * has changed. */
 enum gorseplumb_answer gorseplumb_end_heap(struct gorseplumb_machine *machine);
 
-/* Makes an empty list with room for so many pages, in six pieces of memory: the list, its pages' addresses, and of
- * the machine that is booted in it its place, four bytes for each page, 78 KiB of slots for open transactions and
- * 16 KiB for copies of a TX. GORSEPLUMB_OCCUPIED where there is a list; else GORSEPLUMB_OK or
- * GORSEPLUMB_NO_MEMORY. Where it isn't GORSEPLUMB_OK nothing has changed. docs/EMBEDDING.md says which function takes how
- * much stack. */
+/* Makes an empty list with room for `pages` pages, and with the memory for a machine that is booted in them. It takes
+ * six pieces of memory. Two are for the list and for the addresses of its pages. Four are for the machine: its place,
+ * four bytes for each page, 78 KiB of slots for open transactions, and 16 KiB for copies of a TX. The page
+ * docs/EMBEDDING.md says which function takes how much stack. Returns GORSEPLUMB_OK if the list is made. Returns
+ * GORSEPLUMB_OCCUPIED if there is a list, or GORSEPLUMB_NO_MEMORY. If the answer is not GORSEPLUMB_OK, nothing has
+ * changed. */
 enum gorseplumb_answer gorseplumb_begin_lending(struct gorseplumb_lent *lent, uint32_t pages);
 
-/* Moves a page from its slot to the end of the list, and leaves the slot empty. GORSEPLUMB_NO_LIST where there is no
- * list; else GORSEPLUMB_NO_PAGE where there is no page in the slot; else GORSEPLUMB_OK or GORSEPLUMB_NO_MEMORY, which
- * comes only where the list has as many pages as it has room for: so many as gorseplumb_begin_lending was told have
- * room, until a boot takes the list's pages. Where it isn't GORSEPLUMB_OK list and slot have the pages that they
- * had. */
+/* Moves a page from its slot to the end of the list, and leaves the slot empty. Returns GORSEPLUMB_OK if the page has
+ * moved. Returns GORSEPLUMB_NO_LIST if there is no list, and then GORSEPLUMB_NO_PAGE if the slot has no page. Otherwise
+ * it returns GORSEPLUMB_NO_MEMORY only if the list has no room for another page. The number of pages that you passed to
+ * gorseplumb_begin_lending has room, until a boot takes the list's pages. If the answer is not GORSEPLUMB_OK, the list
+ * and the slot have the same pages as before. */
 enum gorseplumb_answer gorseplumb_lend(struct gorseplumb_lent *lent, struct gorseplumb_slot *slot);
 
-/* Moves all pages of a span to the end of the list, in order, and leaves the span empty; they come back one by one.
- * GORSEPLUMB_NO_LIST where there is no list; else GORSEPLUMB_NO_PAGE where the span has no pages; else GORSEPLUMB_OK or
- * GORSEPLUMB_NO_MEMORY, which comes only where the list has no room for all of them. Where it isn't GORSEPLUMB_OK
- * nothing has changed. */
+/* Moves all pages of a span to the end of the list, in order, and leaves the span empty. The pages come back one by
+ * one. Returns GORSEPLUMB_OK if the pages have moved. Returns GORSEPLUMB_NO_LIST if there is no list, and then
+ * GORSEPLUMB_NO_PAGE if the span has no pages. Otherwise it returns GORSEPLUMB_NO_MEMORY only if the list has no room
+ * for all of them. If the answer is not GORSEPLUMB_OK, nothing has changed. */
 enum gorseplumb_answer gorseplumb_lend_span(struct gorseplumb_lent *lent, struct gorseplumb_span *span);
 
-/* Moves the list's last page to an empty slot. GORSEPLUMB_NO_LIST where there is no list; else GORSEPLUMB_OCCUPIED
- * where there is a page in the slot; else GORSEPLUMB_NO_PAGE where the list has none; else GORSEPLUMB_OK. Where it
- * isn't GORSEPLUMB_OK nothing has changed. */
+/* Moves the list's last page to an empty slot. Returns GORSEPLUMB_OK if the page has moved. Otherwise it returns the
+ * first answer that applies: GORSEPLUMB_NO_LIST if there is no list, GORSEPLUMB_OCCUPIED if the slot has a page, or
+ * GORSEPLUMB_NO_PAGE if the list has no page. Then nothing has changed. */
 enum gorseplumb_answer gorseplumb_take_back(struct gorseplumb_lent *lent, struct gorseplumb_slot *slot);
 
-/* The number of pages in the list; 0 where there is no list. It writes nothing to `lent`. */
+/* Returns the number of pages in the list, or 0 if there is no list. It writes nothing to `lent`. */
 uint64_t gorseplumb_lent_pages(const struct gorseplumb_lent *lent);
 
-/* Ends an empty list, and gives all memory back that it has; there is none then. GORSEPLUMB_NO_LIST where there is no
- * list; else GORSEPLUMB_HAS_PAGES where it has pages; else GORSEPLUMB_OK. Where it isn't GORSEPLUMB_OK nothing has
- * changed. */
+/* Ends an empty list, and gives back all memory that the list has. Returns GORSEPLUMB_OK if the list has ended. Returns
+ * GORSEPLUMB_NO_LIST if there is no list, or GORSEPLUMB_HAS_PAGES if the list has pages. If the answer is not
+ * GORSEPLUMB_OK, nothing has changed. */
 enum gorseplumb_answer gorseplumb_end_lending(struct gorseplumb_lent *lent);
 
 #ifdef __cplusplus

@@ -198,7 +198,7 @@ static inline void gorseplumb_put_no_form(struct gorseplumb_text *text, const st
     const uint32_t bit = UINT32_C(0x40000000), check = GORSEPLUMB_CHECK_FUNCTION_UNKNOWN;
     if (reason->check != check || reason->value < bit) return;
     uint32_t function = (uint32_t)reason->value - bit;
-    /* Of the calls that are served, only FFA_FEATURES has this check, and FFA_NOTIFICATION_INFO_GET, which has that form. */
+    /* Only two calls that are served have this check: FFA_FEATURES, and FFA_NOTIFICATION_INFO_GET, which has that form. */
     if (function != GORSEPLUMB_FFA_FEATURES && gorseplumb_check_number(function, check) != 0) return;
     gorseplumb_put(text, ", and ");
     gorseplumb_put(text, gorseplumb_call_name(function));

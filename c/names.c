@@ -247,7 +247,7 @@ static const char answer_names[] =
     "M12 RegionOutside\0"
     "M13 RegionOverlap\0"
     "M14 Version\0"
-    "what is to be made, or to be filled, is there already\0"
+    "there is already a machine, a list or a page\0"
     "there is no list\0"
     "there is no page in the slot, in the span or in the list\0"
     "the list has pages still\0"
@@ -255,8 +255,8 @@ static const char answer_names[] =
     "the list has more pages than the machine's RAM, or fewer\0"
     "the tables don't give what the runs say\0"
     "the machine's RAM is lent: gorseplumb_end gives it back\0"
-    "RAM of so many pages can't stand at the address\0"
-    "there are more than endpoints of a machine, or one is at no page of RAM\0"
+    "RAM of this size cannot begin at this address\0"
+    "there are more roots than endpoints of a machine, or a root is not a page of RAM\0"
     "M25 TablesOutside\0";
 
 /* The name at a place, counted from 0, of names that have so many bytes; "" behind the last. */

@@ -4,7 +4,7 @@
 usage: trace.py write PROGRAM    writes the trace; PROGRAM is the one whose `descriptor` writes descriptors
        trace.py judge FILE       reads what was printed
 
-The normal world shares 250 ranges of a page each with 8001, which retrieves and relinquishes them, and offers 251, which is refused. Then
+The normal world shares 244 ranges of a page each with 8001, which retrieves and relinquishes them, and offers 245, which is refused. Then
 it has 64 transactions open at a time, and a 65th is refused; and then it shares a page and reclaims it 100,000 times.
 
 Status: 0 where all is so, else 1, and a line says what isn't.
@@ -12,7 +12,7 @@ Status: 0 where all is so, else 1, and a line says what isn't.
 import subprocess
 import sys
 
-RANGES, OPEN, ROUNDS = 250, 64, 100_000
+RANGES, OPEN, ROUNDS = 244, 64, 100_000
 TX, RX, TX_8001, RX_8001, PAGES = 0x40018000, 0x4001A000, 0x4002E000, 0x4002F000, 0x40200000
 # Where the composite of such a descriptor stands, and its first range.
 COMPOSITE, FIRST = 0x40, 0x50

@@ -11,49 +11,49 @@ use crate::names::call_row;
 use ffa_model::function::*;
 use ffa_model::{Call, DirectMessage, EndpointId, Handle, NotificationBits, Transfer};
 
-/// The low half of a register.
+/// Returns the low half of a register.
 pub fn low(register: u64) -> u32
     ensures { result ≡ low register }
 {
     (register % (1 << 32)) as u32
 }
 
-// The high half of a word.
+// Returns the high half of a word.
 fn high_half(word: u32) -> u16
     ensures { result ≡ high_half word }
 {
     (word / 0x1_0000) as u16
 }
 
-// The low half of a word.
+// Returns the low half of a word.
 fn low_half(word: u32) -> u16
     ensures { result ≡ low_half word }
 {
     (word % 0x1_0000) as u16
 }
 
-// The endpoint that the high half of a word names.
+// Returns the endpoint that the high half of a word names.
 fn high_endpoint(word: u32) -> EndpointId
     ensures { result ≡ high_endpoint word }
 {
     EndpointId(high_half(word))
 }
 
-// The endpoint that the low half of a word names.
+// Returns the endpoint that the low half of a word names.
 fn low_endpoint(word: u32) -> EndpointId
     ensures { result ≡ low_endpoint word }
 {
     EndpointId(low_half(word))
 }
 
-// The 64-bit word of two halves.
+// Returns the 64-bit word of two halves.
 fn word_of_halves(low: u32, high: u32) -> u64
     ensures { result ≡ word_of_halves low high }
 {
     u64::from(high) * (1 << 32) + u64::from(low)
 }
 
-// The low half of a register, by its number: of x0 it names the function.
+// Returns the low half of a register, by its number. The low half of x0 names the function.
 fn w(registers: &[u64; 8], index: usize) -> u32
     requires { index < 8 }
     ensures { result ≡ low (slice_index registers.now index) }
@@ -68,7 +68,7 @@ fn is_wide(registers: &[u64; 8]) -> bool
     (w(registers, 0) >> 30) % 2 == 1
 }
 
-// A whole register in the 64-bit form of a call, and else its low half.
+// Returns the whole register in the 64-bit form of a call, and its low half otherwise.
 fn x(registers: &[u64; 8], index: usize) -> u64
     requires { index < 8 }
     ensures { result ≡ widest registers.now index }
@@ -80,8 +80,9 @@ fn x(registers: &[u64; 8], index: usize) -> u64
     }
 }
 
-// Whether the call is of setup, which is then filled in. Here and below each arm fills it in where it stands: handed back by
-// value, a compiler would keep all fields of all calls in registers.
+// Whether the call is of setup. If it is, the function writes it to `call`. In this and the next functions, each arm
+// writes the call into its place. If they returned it by value, a compiler would keep all fields of all calls in
+// registers.
 fn setup(registers: &[u64; 8], call: &mut Call) -> bool
     ensures found { result ≡ is_some (called_in setup registers.now) }
     ensures call { call.new ≡ unwrap_or (called_in setup registers.now) call.old }
@@ -156,7 +157,7 @@ fn message(registers: &[u64; 8], call: &mut Call) -> bool
     true
 }
 
-// A direct message, in either form.
+// Returns a direct message, in either form.
 #[inline(always)]
 fn direct_message(registers: &[u64; 8]) -> DirectMessage
     ensures { result ≡ message_of registers.now }
@@ -170,7 +171,7 @@ fn direct_message(registers: &[u64; 8]) -> DirectMessage
     }
 }
 
-// What a direct message carries.
+// Returns the values that a direct message carries in x3 to x7.
 #[inline(always)]
 fn payload(registers: &[u64; 8]) -> [u64; 5]
     ensures { result ≡ payload_of registers.now }
@@ -184,7 +185,7 @@ fn payload(registers: &[u64; 8]) -> [u64; 5]
     ]
 }
 
-// What is said of a descriptor in TX.
+// Returns the arguments of a call whose descriptor is in TX.
 fn transfer(registers: &[u64; 8]) -> Transfer
     ensures { result ≡ transfer_of registers.now }
 {
@@ -252,7 +253,7 @@ fn notification(registers: &[u64; 8], call: &mut Call) -> bool
     true
 }
 
-// The bits of a receiver that a call names, for a sender.
+// Returns the notification bits of a call, with their receiver and their sender.
 fn notification_bits(registers: &[u64; 8]) -> NotificationBits
     ensures { result ≡ bits_of_call registers.now }
 {
@@ -290,8 +291,8 @@ fn notice(registers: &[u64; 8], call: &mut Call) -> bool
     true
 }
 
-/// The call that the registers x0 to x7 hold. The low half of x0 names it; its other arguments are low halves of
-/// registers, but for those that the 64-bit form of a call widens.
+/// Returns the call that the registers x0 to x7 hold. The low half of x0 names the call. Its other arguments are the
+/// low halves of registers, except those that the 64-bit form of the call widens.
 pub fn decode(x: [u64; 8]) -> Call
     ensures { result ≡ decode x }
 {
@@ -300,7 +301,7 @@ pub fn decode(x: [u64; 8]) -> Call
     call
 }
 
-/// The same, filled in where it stands.
+/// Writes the call that the registers x0 to x7 hold to `call`, as `decode` returns it.
 #[inline(never)]
 pub fn decode_into(x: &[u64; 8], call: &mut Call)
     ensures { call.new ≡ decode x.now }
@@ -310,7 +311,7 @@ pub fn decode_into(x: &[u64; 8], call: &mut Call)
     }
 }
 
-// Whether the registers name a call, which is then filled in.
+// Whether the registers name a call. If they do, the function writes it to `call`.
 fn is_called(registers: &[u64; 8], call: &mut Call) -> bool
     ensures found { result ≡ is_some (called_in functions registers.now) }
     ensures call { call.new ≡ unwrap_or (called_in functions registers.now) call.old }
@@ -323,7 +324,8 @@ fn is_called(registers: &[u64; 8], call: &mut Call) -> bool
         || notice(registers, call)
 }
 
-/// Whether the call that the registers hold reads this one whole, as its 64-bit form does some, or the low half alone.
+/// Whether the call that the registers hold reads this register whole, as the 64-bit form of some calls does. Otherwise
+/// it reads only the low half.
 // A subject of a reason does not have its width, because that would change each clause that mentions a subject.
 #[tactic(auto, unfolding(crate::specs::Widths::is_read_whole))]
 pub fn is_read_whole(x: &[u64; 8], register: u32) -> bool
@@ -343,7 +345,7 @@ fn is_widened(function: u32, register: u32) -> bool
 }
 
 /// Whether a number is the identifier of a call, in either form that the call has (DEN0077A, 13).
-// Of numbers alone, since to decode a call takes more.
+// It takes only the number, because to decode a call takes more.
 pub fn is_function(function: u32) -> bool
     ensures { result ≡ is_function function }
 {

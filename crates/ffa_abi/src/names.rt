@@ -1,5 +1,5 @@
 // SPDX-License-Identifier: MIT OR Apache-2.0
-//! What the standard calls the functions and the error codes that registers hold.
+//! The standard's names of the functions and the error codes that registers hold.
 ghost use Rattle.std.specs.Prelude.{◌≡◌, ◌≤◌, length, option_map};
 ghost use Rattle.ffa_model.specs.Registers.{low};
 ghost use Rattle.ffa_model.specs.Rows.{place_in_rows, row_of, rows, told};
@@ -11,7 +11,8 @@ use ffa_model::function::{
 };
 use ffa_model::{CALLS, CallRow};
 
-/// The row of the call of which a number is the identifier, in either form that the call has (DEN0077A, 11 to 16).
+/// Returns the row of the call that has this identifier, in either form that the call has (DEN0077A, 11 to 16). Returns
+/// `None` if the number identifies no call.
 #[tactic(auto, unfolding(ffa_model::specs::Rows::row_of))]
 pub fn call_row(function: u32) -> Option<&'static CallRow>
     ensures { option_map (λ row. told row.now) result ≡ row_of function }
@@ -22,7 +23,8 @@ pub fn call_row(function: u32) -> Option<&'static CallRow>
     })
 }
 
-/// The place of that row; behind all where there is none.
+/// Returns the place in `CALLS` of the row of the call that has this identifier, in either form. Returns the number of
+/// rows if the number identifies no call.
 #[tactic(auto, unfolding(ffa_model::specs::Rows::place_in_rows))]
 pub fn call_place(function: u32) -> usize
     ensures place { result ≡ place_in_rows function }
@@ -37,8 +39,8 @@ pub fn call_place(function: u32) -> usize
         .unwrap_or(CALLS.len())
 }
 
-/// The name of the call that these registers are, in either form that the call has. The low half of x0 identifies it: None
-/// where that is no function identifier that a machine knows, as where it is a version.
+/// Returns the name of the call in these registers, in either form that the call has. The low half of x0 identifies it.
+/// Returns `None` if this is not a function identifier that a machine knows, for example if it is a version.
 #[tactic(auto, unfolding(crate::specs::Names::call_name_of))]
 pub fn call_name(x: &[u64; 8]) -> Option<&'static str>
     ensures { option_map (λ name. name.now) result ≡ call_name_of x.now }
@@ -50,7 +52,7 @@ pub fn call_name(x: &[u64; 8]) -> Option<&'static str>
     }
 }
 
-// The name of what a caller sees, and is no call.
+// Returns the name of an identifier that a caller sees, and that is not a call.
 fn other_name(function: u32) -> Option<&'static str>
     ensures { option_map (λ name. name.now) result ≡ name_in answer_names function }
 {
@@ -64,8 +66,8 @@ fn other_name(function: u32) -> Option<&'static str>
     Some(name)
 }
 
-/// The name of the error code in w2 of an FFA_ERROR (DEN0077A, 11.2): None where the registers are no FFA_ERROR, or the
-/// standard has no such code.
+/// Returns the name of the error code in w2 of an FFA_ERROR (DEN0077A, 11.2). Returns `None` if the registers are not
+/// an FFA_ERROR, or if the standard has no such code.
 #[tactic(auto, unfolding(crate::specs::Names::error_name_of))]
 pub fn error_name(x: &[u64; 8]) -> Option<&'static str>
     ensures { option_map (λ name. name.now) result ≡ error_name_of x.now }
@@ -77,7 +79,7 @@ pub fn error_name(x: &[u64; 8]) -> Option<&'static str>
     }
 }
 
-// The name of an error code, which is 32 bits of two's complement.
+// Returns the name of an error code, which is 32 bits of two's complement.
 fn code_name(code: u32) -> Option<&'static str>
     ensures { option_map (λ name. name.now) result ≡ name_in error_names code }
 {

@@ -8,7 +8,7 @@ ghost use Rattle.ffa_model.specs.declared.call.Reply.{Reply};
 use ffa_model::function::{FFA_ERROR, FFA_MEM_RETRIEVE_RESP, FFA_SUCCESS, FFA_SUCCESS_64};
 use ffa_model::{DirectMessage, EndpointId, ErrorCode, Handle, Reply};
 
-// FF-A's number of a code, as 32 bits of two's complement (DEN0077A, 11.2).
+// Returns FF-A's number of an error code, as 32 bits of two's complement (DEN0077A, 11.2).
 #[inline(always)]
 fn code_number(code: ErrorCode) -> u32
     ensures { result ≡ code_number code }
@@ -23,7 +23,7 @@ fn code_number(code: ErrorCode) -> u32
     }
 }
 
-// The registers of FFA_SUCCESS, with w2 to w7.
+// Returns the registers of FFA_SUCCESS, with w2 to w7.
 #[inline(always)]
 fn success_registers(results: [u32; 6]) -> [u64; 8]
     ensures { result ≡ encode (Reply.Success results) }
@@ -32,21 +32,21 @@ fn success_registers(results: [u32; 6]) -> [u64; 8]
     [u64::from(FFA_SUCCESS), 0, w2, w3, w4, w5, w6, w7]
 }
 
-// The low half of a word.
+// Returns the low half of a word.
 fn low_word(word: u64) -> u64
     ensures { result ≡ bits 31 0 word }
 {
     word % 0x1_0000_0000
 }
 
-// The high half of a word.
+// Returns the high half of a word.
 fn high_word(word: u64) -> u64
     ensures { result ≡ bits 63 32 word }
 {
     word / 0x1_0000_0000
 }
 
-// The registers of FFA_SUCCESS with a handle.
+// Returns the registers of FFA_SUCCESS with a handle.
 #[inline(always)]
 fn handle_registers(handle: Handle) -> [u64; 8]
     ensures { result ≡ encode (Reply.Sent handle) }
@@ -55,7 +55,7 @@ fn handle_registers(handle: Handle) -> [u64; 8]
     [u64::from(FFA_SUCCESS), 0, low, high, 0, 0, 0, 0]
 }
 
-// The registers of FFA_SUCCESS with bitmaps of pending notifications.
+// Returns the registers of FFA_SUCCESS with bitmaps of pending notifications.
 #[inline(always)]
 fn pending_registers(partitions: u64, normal_world: u64, manager: u64) -> [u64; 8]
     ensures { result ≡ encode (Reply.Pending partitions normal_world manager) }
@@ -74,7 +74,7 @@ fn pending_registers(partitions: u64, normal_world: u64, manager: u64) -> [u64; 
     ]
 }
 
-// The registers of a direct message, as its receiver sees it.
+// Returns the registers of a direct message, as its receiver sees it.
 #[inline(always)]
 fn message_registers(message: &DirectMessage) -> [u64; 8]
     ensures { result ≡ encode (Reply.Passed message.now) }
@@ -85,7 +85,8 @@ fn message_registers(message: &DirectMessage) -> [u64; 8]
     [w0, w1, 0, x3, x4, x5, x6, x7]
 }
 
-// The registers that tell of a partition which is given cycles, or gives them back: it and its execution context 0 in w1.
+// Returns the registers that report a partition which gets cycles or returns them. The partition and its execution
+// context 0 are in w1.
 #[inline(always)]
 fn cycles_registers(function: u32, partition: EndpointId) -> [u64; 8]
     ensures { result ≡ encode (Reply.Scheduled function partition) }
@@ -94,14 +95,15 @@ fn cycles_registers(function: u32, partition: EndpointId) -> [u64; 8]
     [u64::from(function), w1, 0, 0, 0, 0, 0, 0]
 }
 
-// The word of two halves.
+// Returns the word of two halves.
 fn word_of_two(high: u16, low: u16) -> u32
     ensures { result ≡ word_of_two high low }
 {
     u32::from(high) * 0x1_0000 + u32::from(low)
 }
 
-/// The registers x0 to x7 of a reply. Those that it does not use, and the upper halves of 32-bit values, are zero.
+/// Returns the registers x0 to x7 of a reply. Registers that the reply does not use, and the upper halves of 32-bit
+/// values, are zero.
 #[inline]
 pub fn encode(reply: &Reply) -> [u64; 8]
     ensures { result ≡ encode reply.now }
@@ -111,8 +113,8 @@ pub fn encode(reply: &Reply) -> [u64; 8]
     x
 }
 
-/// The same, filled in where they stand.
-// It writes a reply where the caller needs it, and a direct message that is passed on becomes the reply. Otherwise the
+/// Writes the registers x0 to x7 of a reply to `x`, as `encode` returns them.
+// It writes a reply where the caller needs it, so a direct message that is passed on becomes the reply. Otherwise the
 // registers would be copied five times.
 #[inline(never)]
 pub fn encode_into(reply: &Reply, x: &mut [u64; 8])

@@ -1,5 +1,5 @@
 // SPDX-License-Identifier: MIT OR Apache-2.0
-//! Whether tables give what runs of pages say: a machine's own, and those in pages of a list.
+//! Checks of whether tables give what runs of pages say: a machine's own tables, and tables in pages of a list.
 ghost use Rattle.std.specs.Prelude.{◌≡◌, ◌≢◌, ◌⊎◌, ◌+◌, ◌*◌, ◌%◌, ◌^◌, ◌==◌, ◌&&◌, ◌≤◌, [], IfOk, IfSome, length, map, nat_le, if◌then◌else◌};
 ghost use Rattle.std.specs.List.{list_all};
 ghost use Rattle.std.specs.Option.{option_map};
@@ -20,8 +20,10 @@ use crate::manifest::rights_of;
 use ffa_model::{Address, CertRun, EndpointId, MOST_ENDPOINTS, PageNo, Rights};
 use std::alloc::{AllocError, Global};
 
-/// Whether runs are a certificate that the machine's tables give: over the bytes of RAM alone, and nothing of owners and
-/// handles. `OK`, `NOT_CERTIFIED`, `NO_MACHINE`, or `NO_MEMORY`, since the runs are copied. The machine stays.
+/// Checks whether runs are a certificate that the machine's tables give. The check reads only the bytes of RAM, and
+/// does not look at owners and handles. Returns `OK` if the runs are such a certificate, and otherwise `NOT_CERTIFIED`.
+/// The machine's own certificate never gets `NOT_CERTIFIED`. Returns `NO_MACHINE` if there is no machine, or
+/// `NO_MEMORY`, because it copies the runs. The machine stays as it was.
 #[unsafe(no_mangle)]
 pub extern "C" fn gorseplumb_audit(alloc: Global, machine: &mut CMachine, runs: &[CCertRun]) -> u32
     ensures same { machine.new.held.value ≡ machine.old.held.value }
@@ -48,10 +50,12 @@ fn audit_board(alloc: Global, board: &Board, given: &[CCertRun]) -> u32
     }
 }
 
-/// Whether the tables from these roots, the addresses of level 1 tables, give what the runs say, in RAM at this address
-/// whose pages are those of a list. `OK`, `NOT_CERTIFIED`, `NO_LIST`; `BAD_BASE`, where so many pages can't stand
-/// there; `BAD_ROOTS`, where there are more than endpoints, or one is at no page of RAM; or `NO_MEMORY`, since the runs
-/// are copied. The list keeps its pages, with their bytes, and where nothing is judged nothing has changed.
+/// Checks whether tables give what runs of pages say. The tables begin at these roots, which are the addresses of level
+/// 1 tables. RAM begins at this base, and its pages are the pages of a list. Returns `NO_LIST` if there is no list.
+/// Then returns `BAD_BASE` if RAM of this size cannot begin at the base. Then returns `BAD_ROOTS` if there are more
+/// roots than a machine can have endpoints, or if a root is not a page of RAM. Otherwise returns `OK`, `NOT_CERTIFIED`,
+/// or `NO_MEMORY`, because it copies the runs. The list keeps its pages, with their bytes. If the answer is neither
+/// `OK` nor `NOT_CERTIFIED`, nothing has changed.
 #[unsafe(no_mangle)]
 pub extern "C" fn gorseplumb_audit_tables(
     alloc: Global,
@@ -108,14 +112,14 @@ fn answer_of(certified: bool) -> u32
     if certified { OK } else { NOT_CERTIFIED }
 }
 
-// Whether RAM of a list's pages may stand at an address.
+// Whether RAM with a list's pages may begin at an address.
 fn is_placed(list: &LentList, base: u32) -> bool
     ensures { result ≡ is_placed_ram (ram_at base list.now.pages) }
 {
     base % 4096 == 0 && list.pages() as u64 <= ((1 << 32) - u64::from(base)) / 4096
 }
 
-// Whether these may be level 1 tables in such RAM.
+// Whether these may be the addresses of level 1 tables in such RAM.
 fn are_roots(list: &LentList, base: u32, roots: &[u32]) -> bool
     ensures { result ≡ are_roots (ram_at base list.now.pages) roots.now }
 {
@@ -133,14 +137,14 @@ fn are_pages(list: &LentList, base: u32, addresses: &[u32]) -> bool
     true
 }
 
-// Whether an address is that of a page.
+// Whether an address is the address of a page.
 fn is_page(list: &LentList, base: u32, address: u32) -> bool
     ensures { result ≡ is_page_address (ram_at base list.now.pages) address }
 {
     address % 4096 == 0 && base <= address && (((address - base) / 4096) as usize) < list.pages()
 }
 
-// The runs that C gives, if each of them is one.
+// The runs that C passes, if each of them is a run.
 fn runs_of(alloc: Global, given: &[CCertRun]) -> Result<Option<Vec<CertRun>>, AllocError>
     ensures { IfOk result (λ runs. option_map (λ v. v.items) runs ≡ all_given run_given [] given.now) }
 {

@@ -1,5 +1,5 @@
 // SPDX-License-Identifier: MIT OR Apache-2.0
-//! A machine with the outcomes that C sees, whichever RAM it has.
+//! A machine with the outcomes that C sees, for each kind of RAM.
 ghost use Rattle.std.specs.Prelude.{◌≡◌, ◌<◌, ◌≤◌, ◌*◌, ◌↔◌, IfSome, IsTrue, true, false, length, is_some};
 ghost use Rattle.std.specs.Option.{option_map};
 ghost use Rattle.ffa_model.specs.declared.limits.TheConstants.{MOST_PROCESSORS};
@@ -38,7 +38,7 @@ use ffa_tlb::NoTlb;
 use std::alloc::Global;
 use std::marker::Model;
 
-// The same of a machine of either kind.
+// Does the same with the cluster of a machine of either kind.
 macro_rules! either {
     ($kind:expr, $cluster:ident => $done:expr) => {
         match $kind {
@@ -48,7 +48,7 @@ macro_rules! either {
     };
 }
 
-// The same of what a machine of either kind is to the processor of the last operation.
+// Asks a machine of either kind the same, as the processor of the last operation sees it.
 macro_rules! asked {
     ($kind:expr, $machine:ident => $asked:expr) => {
         either!($kind, cluster => {
@@ -60,17 +60,17 @@ macro_rules! asked {
 
 mod copy;
 
-/// What a boot does with the bytes of pages that are lent.
+/// The way in which a boot treats the bytes of lent pages.
 #[derive(Clone, Copy)]
 pub enum FirstBytes {
-    /// All pages but the tables' are zeros.
+    /// All pages are zeros, except the pages of the tables.
     Cleared,
-    /// Pages of the manifest's regions keep theirs, and all others but the tables' are zeros.
+    /// Pages of the manifest's regions keep their bytes. All other pages are zeros, except the pages of the tables.
     Kept,
 }
 
-/// A machine with no cache, and with RAM of the heap or RAM that is lent. Contracts see the machine as the selected
-/// processor does, who runs on each other one, and which RAM it has.
+/// A machine with no cache, in RAM from the heap or in lent RAM. Contracts see the machine as the selected processor
+/// sees it, the runner of each other processor, and which RAM the machine has.
 #[derive(Drop)]
 pub struct Board {
     kind: BoardMachine,
@@ -107,7 +107,7 @@ fn boot_cluster<M: PhysMem + Drop, S: Store>(
 }
 
 impl Board {
-    /// The machine of a manifest in its first state, in RAM that is zeros.
+    /// Boots the machine of a manifest in its first state, in RAM that is zeros. Each processor runs the normal world.
     pub fn boot(manifest: &Manifest, ram: FlatRam, storage: Storage<Given<Global>>) -> Board
         requires storage { IsRoomFor manifest.now storage }
         requires ram { let pages = 512 * manifest.now.ram_blocks in
@@ -122,8 +122,8 @@ impl Board {
         }
     }
 
-    /// The machine of a manifest in its first state, in RAM that is lent, which it clears, or whose regions keep their
-    /// bytes.
+    /// Boots the machine of a manifest in its first state, in lent RAM. It clears the RAM, or keeps the bytes in the
+    /// manifest's regions. Each processor runs the normal world, and each page stays where it was lent.
     pub fn boot_lent(
         manifest: &Manifest,
         ram: LentRam,
@@ -148,15 +148,15 @@ impl Board {
         }
     }
 
-    /// Whether the RAM is lent.
+    /// Whether the RAM of the machine is lent.
     pub fn is_lent(&self) -> bool
         ensures { result ≡ self.now.is_lent }
     {
         matches!(self.kind, BoardMachine::Lent(_))
     }
 
-    /// Ends the machine: the pages that were lent, with the bytes that they had in the end, and the room for another
-    /// machine in them.
+    /// Ends a machine in lent RAM. Returns the lent pages, with the bytes that they had in the end, and the room for
+    /// another machine in them.
     pub fn into_frames(self) -> (Frames, Storage<Given<Global>>)
         requires { self.is_lent ≡ true }
         ensures pages { result.0.pages ≡ self.machine.ram.pages }
@@ -173,8 +173,8 @@ impl Board {
         }
     }
 
-    /// Does one operation of whoever runs on the selected processor, to whose TX others may write at the same time where the RAM is
-    /// lent. The outcome is filled in where it stands.
+    /// Does one operation of the runner of the selected processor, and writes the outcome in place. If the RAM is lent,
+    /// others may write to the runner's TX at the same time.
     pub fn op(&mut self, op: &Op, outcome: &mut COutcome)
         ensures done { HasDone self.old.is_lent (cluster_of self.old) (cluster_of self.new) op.now outcome.new }
         ensures kind { self.new.is_lent ≡ self.old.is_lent }
@@ -182,14 +182,14 @@ impl Board {
         either!(&mut self.kind, cluster => operate(cluster, op, outcome))
     }
 
-    /// Whether the normal world would be told of an endpoint by FFA_NOTIFICATION_INFO_GET.
+    /// Whether FFA_NOTIFICATION_INFO_GET would name an endpoint to the normal world.
     pub fn has_notices(&self) -> bool
         ensures { result ≡ has_notices self.now.machine.state }
     {
         asked!(&self.kind, machine => machine.has_notices())
     }
 
-    /// Selects a processor.
+    /// Selects a processor. From then on, operations are of the runner there.
     pub fn select(&mut self, processor: usize)
         requires { processor < MOST_PROCESSORS }
         ensures cluster { cluster_of self.new ≡ selected processor (cluster_of self.old) }
@@ -198,7 +198,7 @@ impl Board {
         either!(&mut self.kind, cluster => cluster.select(processor))
     }
 
-    /// An interrupt that the selected processor takes while it runs whoever it runs.
+    /// Does what an interrupt does that the selected processor takes, whichever endpoint runs there.
     pub fn interrupt(&mut self) -> COutcome
         ensures done { HasInterrupted (cluster_of self.old) (cluster_of self.new) result }
         ensures kind { self.new.is_lent ≡ self.old.is_lent }
@@ -206,7 +206,8 @@ impl Board {
         either!(&mut self.kind, cluster => COutcome::of(&cluster.interrupt()))
     }
 
-    /// Whose access to which pages the last call on memory that was done has changed: told once.
+    /// Returns the report on the last successful call on memory, and clears it: whose access has changed, and to which
+    /// pages.
     pub fn take_change(&mut self) -> Option<Changed>
         ensures told { result ≡ self.old.machine.told }
         ensures rest { self.new ≡ with_all_told self.old }
@@ -214,77 +215,78 @@ impl Board {
         either!(&mut self.kind, cluster => cluster.take_change())
     }
 
-    /// The endpoint that runs.
+    /// Returns the identifier of the endpoint that runs on the selected processor.
     pub fn runner(&self) -> u32
         ensures { result ≡ self.now.machine.state.runner }
     {
         asked!(&self.kind, machine => u32::from(machine.runner().0))
     }
 
-    /// The number of endpoints.
+    /// Returns the number of the machine's endpoints.
     pub fn endpoints(&self) -> u32
         ensures { result ≡ length self.now.machine.state.parties }
     {
         asked!(&self.kind, machine => machine.endpoints() as u32)
     }
 
-    /// RAM's first address.
+    /// Returns RAM's first address.
     pub fn ram_base(&self) -> u32
         ensures { result ≡ self.now.machine.state.ram_base }
     {
         asked!(&self.kind, machine => machine.ram().base().0)
     }
 
-    /// The number of blocks of 2 MiB.
+    /// Returns the number of RAM's blocks of 2 MiB.
     pub fn ram_blocks(&self) -> u32
         ensures { result ≡ blocks_of self.now.machine.state }
     {
         asked!(&self.kind, machine => machine.ram().pages() / 512)
     }
 
-    /// The address of an endpoint's level 1 table, or `NOTHING` where there is no such endpoint.
+    /// Returns the address of an endpoint's level 1 table, or `NOTHING` if there is no such endpoint.
     pub fn root_of(&self, endpoint: u16) -> u32
         ensures { result ≡ root_number self.now.machine.state endpoint }
     {
         asked!(&self.kind, machine => root_by(machine, EndpointId(endpoint)))
     }
 
-    /// The number of pages.
+    /// Returns the number of RAM's pages.
     pub fn pages(&self) -> u32
         ensures { result ≡ length self.now.machine.ram.pages }
     {
         asked!(&self.kind, machine => machine.ram().pages())
     }
 
-    /// The owner of a page, or `NOTHING` where there is no such page; 0x8000 is the manager.
+    /// Returns the owner of a page, with 0x8000 for the manager, or `NOTHING` if there is no such page.
     pub fn owner_of(&self, page: u32) -> u32
         ensures { result ≡ owner_number self.now.machine page }
     {
         asked!(&self.kind, machine => owner_by(machine, PageNo(page)))
     }
 
-    /// The right of an endpoint to a page, as a code.
+    /// Returns the right of an endpoint to a page, as the number that C has for it.
     pub fn access(&self, endpoint: u16, page: u32) -> u32
         ensures { result ≡ access_code (access self.now.machine.state endpoint page) }
     {
         asked!(&self.kind, machine => code_of(machine.access(EndpointId(endpoint), PageNo(page))))
     }
 
-    /// By what an endpoint has its access to a page.
+    /// Returns the ground on which an endpoint has its access to a page, if it has access.
     pub fn grant_of(&self, endpoint: u16, page: u32) -> Option<Grant>
         ensures { result ≡ granted self.now.machine.state endpoint page }
     {
         asked!(&self.kind, machine => ffa_reasons::grant_of(machine, EndpointId(endpoint), PageNo(page)))
     }
 
-    /// The longest run of the certificate from a page on, where there is such a page.
+    /// Returns the longest run of the certificate from a page on, if there is such a page.
     pub fn cert_run(&self, page: u32) -> Option<CertRun>
         ensures { result ≡ run_at self.now.machine page }
     {
         asked!(&self.kind, machine => run_by(machine, PageNo(page)))
     }
 
-    /// Why an operation of the runner would be refused now, or was refused just before.
+    /// Returns why an operation of the runner would be refused now, or was refused just before. Returns `None` if the
+    /// operation would be done.
     pub fn why(&self, op: &Op) -> Option<Explanation>
         ensures why { option_map (λ its. its.why) result ≡ why_here self.now.machine.state op.now }
         ensures detail { IfSome result (λ its. its.detail ≡ detail self.now.machine.state op.now its.why) }
@@ -293,7 +295,7 @@ impl Board {
         asked!(&self.kind, machine => ffa_reasons::why_resuming(machine, op))
     }
 
-    /// Whether an endpoint has a notification pending.
+    /// Whether an endpoint has a pending notification.
     pub fn has_pending(&self, endpoint: u16) -> bool
         ensures { result ≡ has_pending (notifications_of self.now.machine.state) endpoint }
     {
@@ -309,7 +311,7 @@ impl Board {
         asked!(&self.kind, machine => audited_by(machine, runs))
     }
 
-    /// The bytes of a page.
+    /// Returns the bytes of a page of RAM.
     pub fn page(&self, page: u32) -> &[u8; 4096]
         requires { page < length self.now.machine.ram.pages }
         ensures { result.now ≡ page_of self.now.machine.ram page }

@@ -1,5 +1,5 @@
 // SPDX-License-Identifier: MIT OR Apache-2.0
-//! Boots machines for C: over RAM of the heap, and over RAM that is lent.
+//! Boots machines for C, in RAM from the heap and in lent RAM.
 ghost use Rattle.std.specs.Prelude.{◌≡◌, ◌≢◌, ◌*◌, ◌<◌, ◌⊎◌, [], length, true, false, Bool, Ok, Some, None, IfOk, IfErr, IfSome, IsUtf8};
 ghost use Rattle.ffa_model.specs.Ram.{zero_ram};
 ghost use Rattle.ffa_manifest.specs.Document.{Parts, parts_of};
@@ -31,18 +31,19 @@ use ffa_physmem::{FlatRam, NoMemory, PhysMem};
 use ffa_spmc::{Given, Storage};
 use std::alloc::{AllocError, Global};
 
-/// A form in which C gives a manifest.
+/// A form in which C passes a manifest.
 pub(crate) trait ManifestForm {
-    /// Whether it describes these parts of a machine.
+    /// Whether the form describes these parts of a machine.
     ghost describes: { Self → Parts → Type 0 };
 
-    /// Whether this is a cause for which it is refused.
+    /// Whether the library rejects the form for this cause.
     ghost is_cause: { Self → ManifestError → Type 0 };
 
-    /// Whether memory is taken while it is read.
+    /// Whether the library takes memory while it reads the form.
     ghost takes_memory: { Bool };
 
-    /// The manifest, or why it is refused: for want of memory any may be.
+    /// Returns the manifest, or the cause for which the library rejects it. If the form takes memory, the cause can
+    /// also be a lack of memory.
     fn manifest(&self, alloc: Global) -> Result<Manifest, ManifestError>
         ensures described { IfOk result (λ m. describes self.now (parts_of m)) }
         ensures wanting { IfOk result (λ _. is_cause self.now causes.NoMemory) }
@@ -81,9 +82,9 @@ impl ManifestForm for CManifest {
     }
 }
 
-/// Boots the machine of a manifest's text, in RAM of the heap. 0 is that it was booted. Else nothing has changed:
-/// `OCCUPIED`, where a machine stands already, `NO_MEMORY`, or the cause for which the manifest is refused, from
-/// `MANIFEST_TOML` to `MANIFEST_VERSION`.
+/// Boots the machine of a manifest's text, in RAM from the heap. Returns `OK` if the machine was booted. Otherwise
+/// returns `OCCUPIED` if there is already a machine, `NO_MEMORY`, or the cause for which the library rejects the text,
+/// from `MANIFEST_TOML` to `MANIFEST_VERSION`. Then nothing has changed.
 #[unsafe(no_mangle)]
 pub extern "C" fn gorseplumb_boot(alloc: Global, machine: &mut CMachine, text: &[u8]) -> u32
     ensures { Boots (Describes text.now) (IsRefusedFor text.now) machine.old machine.new result }
@@ -91,7 +92,9 @@ pub extern "C" fn gorseplumb_boot(alloc: Global, machine: &mut CMachine, text: &
     boot(alloc, machine, &text)
 }
 
-/// The same for a manifest that is given as numbers.
+/// Boots the machine of a manifest as numbers, in RAM from the heap. Returns `OK` if the machine was booted. Otherwise
+/// returns `OCCUPIED` if there is already a machine, `NO_MEMORY`, or the cause for which the library rejects the
+/// numbers. Then nothing has changed.
 #[unsafe(no_mangle)]
 pub extern "C" fn gorseplumb_boot_manifest(
     alloc: Global,
@@ -103,10 +106,11 @@ pub extern "C" fn gorseplumb_boot_manifest(
     boot(alloc, machine, given)
 }
 
-/// Boots the machine of a manifest's text in the pages of a list, which it clears, and leaves the list empty. 0 is that
-/// it was booted. Else nothing has changed: `OCCUPIED`, `NO_LIST`, what `gorseplumb_boot` answers, or `WRONG_COUNT`,
-/// where the manifest's RAM has more pages or fewer. Where the list has as many pages as it was begun for, memory is
-/// taken for the text alone, while it is read.
+/// Boots the machine of a manifest's text in the pages of a list. It clears the pages, and leaves the list empty.
+/// Returns `OK` if the machine was booted. Otherwise returns `OCCUPIED` if there is already a machine, and then
+/// `NO_LIST` if there is no list. Otherwise returns `NO_MEMORY`, the cause for which the library rejects the text, or
+/// `WRONG_COUNT` if the manifest's RAM has more pages than the list or fewer. Then nothing has changed. If the list has
+/// the number of pages for which it was begun, the boot takes memory only while it reads the text.
 #[unsafe(no_mangle)]
 pub extern "C" fn gorseplumb_boot_lent(
     alloc: Global,
@@ -119,8 +123,9 @@ pub extern "C" fn gorseplumb_boot_lent(
     boot_lent(alloc, machine, lent, &text, FirstBytes::Cleared)
 }
 
-/// The same for a manifest that is given as numbers, for which no memory is taken: none at all where the list has no
-/// more pages than it was begun for.
+/// Boots the machine of a manifest as numbers in the pages of a list, like `gorseplumb_boot_lent` for a text. It
+/// returns `NO_MEMORY` only if the list is ready for fewer pages than it has. A new list is ready for the number of
+/// pages for which it was begun.
 #[unsafe(no_mangle)]
 pub extern "C" fn gorseplumb_boot_lent_manifest(
     alloc: Global,
@@ -134,9 +139,9 @@ pub extern "C" fn gorseplumb_boot_lent_manifest(
     boot_lent(alloc, machine, lent, given, FirstBytes::Cleared)
 }
 
-/// The same as `gorseplumb_boot_lent`, but pages of the manifest's regions keep their bytes, so that what was put
-/// there, as images of partitions or of a kernel, is there before the first operation. All others but the tables' are
-/// zeros.
+/// Boots the machine of a manifest's text in the pages of a list, like `gorseplumb_boot_lent`, but keeps the bytes of
+/// pages in the manifest's regions. So images of partitions or of a kernel that you put there are there before the
+/// first operation. All other pages are zeros, except the pages of the tables.
 #[unsafe(no_mangle)]
 pub extern "C" fn gorseplumb_boot_preloaded(
     alloc: Global,
@@ -149,8 +154,9 @@ pub extern "C" fn gorseplumb_boot_preloaded(
     boot_lent(alloc, machine, lent, &text, FirstBytes::Kept)
 }
 
-/// The same for a manifest that is given as numbers, for which memory is taken as `gorseplumb_boot_lent_manifest` takes
-/// it.
+/// Boots the machine of a manifest as numbers in the pages of a list, and keeps the bytes of pages in the manifest's
+/// regions, like `gorseplumb_boot_preloaded` for a text. It returns `NO_MEMORY` only as `gorseplumb_boot_lent_manifest`
+/// does.
 #[unsafe(no_mangle)]
 pub extern "C" fn gorseplumb_boot_preloaded_manifest(
     alloc: Global,
@@ -164,7 +170,7 @@ pub extern "C" fn gorseplumb_boot_preloaded_manifest(
     boot_lent(alloc, machine, lent, given, FirstBytes::Kept)
 }
 
-// Boots a machine in RAM of the heap.
+// Boots a machine in RAM from the heap.
 fn boot<F: ManifestForm>(alloc: Global, machine: &mut CMachine, form: &F) -> u32
     ensures { Boots (F.describes form.now) (F.is_cause form.now) machine.old machine.new result }
 {
@@ -201,6 +207,7 @@ fn boot_lent<F: ManifestForm>(
     }
 }
 
+/// Returns the number that C has for the cause for which the library rejects a manifest.
 pub(crate) fn number_of(cause: ManifestError) -> u32
     ensures number { result ≡ cause_number cause }
     ensures positive { result ≢ 0 }
@@ -224,7 +231,7 @@ pub(crate) fn number_of(cause: ManifestError) -> u32
     }
 }
 
-// The manifest that a text describes. Not inlined, so that no boot has its frame.
+// The manifest that a text describes. It is not inlined, so that no boot has its frame.
 #[inline(never)]
 pub(crate) fn manifest_of(alloc: Global, text: &[u8]) -> Result<Manifest, ManifestError>
     ensures described { IfOk result (λ m. Describes text.now (parts_of m)) }
@@ -236,7 +243,8 @@ pub(crate) fn manifest_of(alloc: Global, text: &[u8]) -> Result<Manifest, Manife
     ffa_manifest::read(alloc, text)
 }
 
-// Boots a machine, where there is none, in RAM of the heap. Where there is no memory for it, nothing has changed.
+// Boots a machine at a place without a machine, in RAM from the heap. If there is no memory for it, nothing has
+// changed.
 fn boot_heap(alloc: Global, machine: &mut CMachine, manifest: &Manifest) -> u32
     requires { machine.old.held.value ≡ None }
     ensures booted { result ≡ 0 → HasBooted (λ p. p ≡ parts_of manifest.now) false machine.new.held.value }
@@ -251,7 +259,7 @@ fn boot_heap(alloc: Global, machine: &mut CMachine, manifest: &Manifest) -> u32
     }
 }
 
-// The machine of a manifest over RAM of the heap, in a seat of its own.
+// The machine of a manifest over RAM from the heap, in its own seat.
 #[inline(never)]
 pub(crate) fn box_seat(alloc: Global, manifest: &Manifest) -> Result<Box<Seat>, NoMemory>
     ensures { IfOk result (λ b. HasBooted (λ p. p ≡ parts_of manifest.now) false b.value) }
@@ -261,8 +269,8 @@ pub(crate) fn box_seat(alloc: Global, manifest: &Manifest) -> Result<Box<Seat>, 
     Ok(seat)
 }
 
-// What the machine of a manifest stands in on the heap: its place, RAM, and room for what it keeps. Not inlined, so that no
-// boot and no copy has its frame.
+// Takes what the machine of a manifest needs from the heap: its place, its RAM, and room for its data. It is not
+// inlined, so that no boot and no copy has its frame.
 #[inline(never)]
 pub(crate) fn open_heap(
     alloc: Global,
@@ -281,7 +289,7 @@ pub(crate) fn open_heap(
     Ok((seat, ram, storage))
 }
 
-// Boots a machine, where there is none, in the pages of this list.
+// Boots a machine at a place without a machine, in the pages of this list.
 fn boot_over(
     alloc: Global,
     machine: &mut CMachine,

@@ -10,7 +10,8 @@ use crate::kind::code_of;
 use crate::machine::CMachine;
 use ffa_model::{CertRun, MOST_ENDPOINTS, Rights};
 
-/// The longest run from a page on: true, and `run` is it. False, where there is no machine or no such page, and `run` stays.
+/// Writes the longest run from a page on to `run`, and returns true. Returns false if there is no machine, or if the
+/// machine has no such page. Then `run` stays as it was. The machine stays as it was.
 #[unsafe(no_mangle)]
 pub extern "C" fn gorseplumb_cert_run(machine: &mut CMachine, page: u32, run: &mut CCertRun) -> bool
     ensures same { machine.new.held.value ≡ machine.old.held.value }
@@ -27,7 +28,7 @@ pub extern "C" fn gorseplumb_cert_run(machine: &mut CMachine, page: u32, run: &m
     }
 }
 
-// Tells a run, where there is one.
+// Writes a run for C, if there is a run.
 fn tell(found: &Option<CertRun>, run: &mut CCertRun) -> bool
     ensures there { result ≡ is_some found.now }
     ensures told { IfSome found.now (λ it. run.new ≡ cert_told it) }

@@ -1,5 +1,5 @@
 // SPDX-License-Identifier: MIT OR Apache-2.0
-//! What C is told of access that has changed.
+//! The report of changed access, for C.
 ghost use Rattle.std.specs.Prelude.{◌≡◌, true, false, is_some, IfSome};
 ghost use Rattle.std.specs.Option.{option_map};
 ghost use Rattle.ffa_c.specs.Changes.{Says, StandIn, no_range, range_told, somebodys, told_by, with_all_told};
@@ -8,13 +8,13 @@ use crate::machine::CMachine;
 use ffa_memshare::{Changed, PageRanges};
 use ffa_model::{MOST_RANGES, Range};
 
-/// Pages in a row.
+/// Adjacent pages, as C sees them.
 #[repr(C)]
 #[derive(Clone, Copy)]
 pub struct CRange {
-    /// The address of the first byte.
+    /// The address of the first byte of the pages.
     pub address: u64,
-    /// Of all pages, in bytes.
+    /// The size of all pages, in bytes.
     pub size: u64,
 }
 
@@ -38,19 +38,21 @@ impl CRange {
     }
 }
 
-/// Whose access to which pages has changed.
+/// A report of changed access, as C sees it: whose access, and to which pages.
 #[repr(C)]
 #[derive(Clone, Copy)]
 pub struct CChange {
-    /// The endpoint.
+    /// The identifier of the endpoint whose access has changed.
     pub endpoint: u32,
-    /// How many of `ranges` there are, from the first on. Behind them stand zeros.
+    /// The number of `ranges`, from the first on. The places after them are zeros.
     pub range_count: u32,
+    /// The pages to which the access has changed.
     pub ranges: [CRange; MOST_RANGES],
 }
 
-/// Whose access to which pages the last call on memory that was done has changed, told once: true, and `change` says
-/// it; or false, and it stays, where there is nothing to tell, or nobody's access has changed.
+/// Reports once whose access the last successful call on memory has changed, and to which pages. Returns true, and
+/// writes the report to `change`. Returns false if there is nothing to report, or if nobody's access has changed. Then
+/// `change` stays as it was. In both cases, the machine has no report left, and all else of it stays as it was.
 #[unsafe(no_mangle)]
 pub extern "C" fn gorseplumb_take_change(machine: &mut CMachine, change: &mut CChange) -> bool
     ensures rest { machine.new.held.value ≡ option_map with_all_told machine.old.held.value }
@@ -66,7 +68,7 @@ pub extern "C" fn gorseplumb_take_change(machine: &mut CMachine, change: &mut CC
     }
 }
 
-// Tells a change, if it is somebody's.
+// Writes a report for C, if it has an endpoint.
 fn tell(changed: &Option<Changed>, change: &mut CChange) -> bool
     ensures there { result ≡ is_some (somebodys changed.now) }
     ensures told { IfSome (somebodys changed.now) (λ its. Says change.new its.0 its.1) }
@@ -84,7 +86,7 @@ fn tell(changed: &Option<Changed>, change: &mut CChange) -> bool
     }
 }
 
-// The ranges from an array's front on, and behind them none.
+// The ranges from an array's front on, and empty places after them.
 fn list_ranges(ranges: &PageRanges) -> [CRange; MOST_RANGES]
     ensures { StandIn result ranges.now }
 {

@@ -1,5 +1,5 @@
 // SPDX-License-Identifier: MIT OR Apache-2.0
-//! Copies machines for C: into RAM of the heap, and into RAM that is lent.
+//! Copies machines for C: into RAM from the heap, and into lent RAM.
 ghost use Rattle.std.specs.Prelude.{◌≡◌, ◌≢◌, ◌<◌, [], length, true, false, None, Some, IfOk};
 ghost use Rattle.ffa_c.specs.Copying.{HasCopied, copied_answer, copied_lent_answer};
 ghost use Rattle.ffa_c.specs.Boarded.{ram_places};
@@ -15,8 +15,9 @@ use crate::seat::Seat;
 use ffa_physmem::NoMemory;
 use std::alloc::{AllocError, Global};
 
-/// Makes the same machine as another once more, in RAM of the heap. 0 is that it was made. Else nothing has changed:
-/// `OCCUPIED`, where a machine stands already, `NO_MACHINE`, where there is none to copy, or `NO_MEMORY`.
+/// Makes a copy of the machine of `original`, in RAM from the heap. Returns `OK` if the copy was made. Otherwise
+/// returns the first answer that applies: `OCCUPIED` if there is already a machine, `NO_MACHINE` if there is no machine
+/// to copy, or `NO_MEMORY`. Then nothing has changed. With each answer, `original` stays as it was.
 #[unsafe(no_mangle)]
 pub extern "C" fn gorseplumb_copy(
     alloc: Global,
@@ -38,9 +39,11 @@ pub extern "C" fn gorseplumb_copy(
     }
 }
 
-/// The same in the pages of a list, of which it writes every byte, and leaves the list empty. 0 is that it was made. Else
-/// nothing has changed: `OCCUPIED`, `NO_LIST`, `NO_MACHINE`, `WRONG_COUNT`, where the machine's RAM has more pages or fewer,
-/// or `NO_MEMORY`. No memory is taken where the list has as many pages as it was begun for.
+/// Makes a copy of the machine of `original` in the pages of a list. It writes every byte of the pages, and leaves the
+/// list empty. Returns `OK` if the copy was made. Otherwise returns the first answer that applies: `OCCUPIED`,
+/// `NO_LIST`, `NO_MACHINE`, `WRONG_COUNT` if the machine's RAM has more pages than the list or fewer, or `NO_MEMORY`.
+/// Then nothing has changed. `NO_MEMORY` comes only if the list is ready for fewer pages than it has. A new list is
+/// ready for the number of pages for which it was begun. With each answer, `original` stays as it was.
 #[unsafe(no_mangle)]
 pub extern "C" fn gorseplumb_copy_lent(
     alloc: Global,
@@ -71,7 +74,7 @@ pub extern "C" fn gorseplumb_copy_lent(
     }
 }
 
-// Copies a machine to where there is none, in RAM of the heap.
+// Copies a machine to a place without a machine, in RAM from the heap.
 fn copy_to_heap(alloc: Global, machine: &mut CMachine, original: &Board) -> u32
     requires { machine.old.held.value ≡ None }
     ensures copied { result ≡ 0 → HasCopied false (Some original.now) machine.new.held.value }
@@ -86,7 +89,7 @@ fn copy_to_heap(alloc: Global, machine: &mut CMachine, original: &Board) -> u32
     }
 }
 
-// The same machine over RAM of the heap, in a seat of its own.
+// The copy of a machine over RAM from the heap, in its own seat.
 #[inline(never)]
 fn copied_seat(alloc: Global, original: &Board) -> Result<Box<Seat>, NoMemory>
     ensures { IfOk result (λ b. HasCopied false (Some original.now) b.value) }
@@ -96,7 +99,7 @@ fn copied_seat(alloc: Global, original: &Board) -> Result<Box<Seat>, NoMemory>
     Ok(seat)
 }
 
-// Copies a machine to where there is none, in the pages of this list.
+// Copies a machine to a place without a machine, in the pages of this list.
 fn copy_to_lent(alloc: Global, machine: &mut CMachine, list: &mut LentList, original: &Board) -> u32
     requires { machine.old.held.value ≡ None }
     ensures answer { result ≢ NO_MEMORY → result ≡ copied_lent_answer None (Some list.old.pages) (Some original.now) }

@@ -1,5 +1,6 @@
 // SPDX-License-Identifier: MIT OR Apache-2.0
-//! The operations that C has done. `c/gorseplumb.h` declares them, and what else C calls.
+//! The operations of C: a call, a load, a store and a fetch. `c/gorseplumb.h` declares them, and all other functions
+//! that C calls.
 ghost use Rattle.std.specs.Prelude.{◌≡◌, Some, None};
 ghost use Rattle.ffa_c.specs.Border.{Operated, OperatedSized, size_at};
 
@@ -8,15 +9,17 @@ use crate::machine::CMachine;
 use crate::outcome::COutcome;
 use ffa_model::{Op, Size};
 
-/// Eight registers.
+/// The registers of a call, x0 to x7, as C passes them.
 #[repr(C)]
 #[derive(Clone, Copy)]
 pub struct CRegisters {
+    /// The values of x0 to x7.
     pub x: [u64; 8],
 }
 
-/// A call of whoever runs on the selected processor, with eight registers. FFA_RUN of a partition that an interrupt stopped lets that go
-/// on.
+/// Does a call of the runner of the selected processor, with eight registers. An FFA_RUN of a partition that an
+/// interrupt stopped lets this partition continue. If there is no machine, the kind of the outcome is
+/// `KIND_NO_MACHINE`, and nothing was done.
 #[unsafe(no_mangle)]
 pub extern "C" fn gorseplumb_call(machine: &mut CMachine, registers: &CRegisters) -> COutcome
     ensures { Operated machine.old.held.value machine.new.held.value (Op.Call registers.now.x) result }
@@ -24,7 +27,9 @@ pub extern "C" fn gorseplumb_call(machine: &mut CMachine, registers: &CRegisters
     operate(machine, &Op::Call(registers.x))
 }
 
-/// A load of 1, 2, 4 or 8 bytes.
+/// Does a load of 1, 2, 4 or 8 bytes by the runner of the selected processor. For another size, the kind of the outcome
+/// is `KIND_BAD_SIZE`, with a machine or without one. Otherwise it is `KIND_NO_MACHINE` if there is no machine. With
+/// these two kinds, nothing was done.
 #[unsafe(no_mangle)]
 pub extern "C" fn gorseplumb_load(machine: &mut CMachine, addr: u64, size: u32) -> COutcome
     ensures { OperatedSized machine.old.held.value machine.new.held.value size (λ s. Op.Load addr s) result }
@@ -35,7 +40,9 @@ pub extern "C" fn gorseplumb_load(machine: &mut CMachine, addr: u64, size: u32) 
     }
 }
 
-/// A store of the value's lowest 1, 2, 4 or 8 bytes.
+/// Does a store of the value's lowest 1, 2, 4 or 8 bytes by the runner of the selected processor. For another size, the
+/// kind of the outcome is `KIND_BAD_SIZE`, with a machine or without one. Otherwise it is `KIND_NO_MACHINE` if there is
+/// no machine. With these two kinds, nothing was done.
 #[unsafe(no_mangle)]
 pub extern "C" fn gorseplumb_store(
     machine: &mut CMachine,
@@ -51,7 +58,8 @@ pub extern "C" fn gorseplumb_store(
     }
 }
 
-/// A fetch of one instruction.
+/// Does a fetch of one instruction by the runner of the selected processor. If there is no machine, the kind of the
+/// outcome is `KIND_NO_MACHINE`, and nothing was done.
 #[unsafe(no_mangle)]
 pub extern "C" fn gorseplumb_fetch(machine: &mut CMachine, addr: u64) -> COutcome
     ensures { Operated machine.old.held.value machine.new.held.value (Op.Fetch addr) result }
@@ -59,6 +67,7 @@ pub extern "C" fn gorseplumb_fetch(machine: &mut CMachine, addr: u64) -> COutcom
     operate(machine, &Op::Fetch { addr })
 }
 
+/// Does an operation of the runner of the selected processor, if there is a machine.
 #[inline]
 pub(crate) fn operate(machine: &mut CMachine, op: &Op) -> COutcome
     ensures { Operated machine.old.held.value machine.new.held.value op.now result }
@@ -70,7 +79,7 @@ pub(crate) fn operate(machine: &mut CMachine, op: &Op) -> COutcome
     outcome
 }
 
-// The size of so many bytes, if it is one.
+// The size of an access of this number of bytes, if there is such a size.
 pub(crate) fn size_of(bytes: u32) -> Option<Size>
     ensures { result ≡ size_at bytes }
 {

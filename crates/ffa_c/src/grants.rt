@@ -1,5 +1,5 @@
 // SPDX-License-Identifier: MIT OR Apache-2.0
-//! By what an endpoint has its access to a page, for C.
+//! The ground on which an endpoint has its access to a page, for C.
 ghost use Rattle.std.specs.Prelude.{◌≡◌, Option};
 ghost use Rattle.ffa_c.specs.Grants.{grant_told, granted_in};
 
@@ -7,18 +7,18 @@ use crate::codes::{GRANT_HELD, GRANT_NONE, GRANT_OWN, GRANT_SHARED};
 use crate::machine::CMachine;
 use ffa_model::Grant;
 
-/// By what an endpoint has its access to a page.
+/// The ground on which an endpoint has its access to a page, as C sees it.
 #[repr(C)]
 #[derive(Clone, Copy)]
 pub struct CGrant {
-    /// One of `GRANT_NONE` to `GRANT_HELD`.
+    /// The kind of the ground, one of `GRANT_NONE` to `GRANT_HELD`.
     pub kind: u32,
-    /// Of `GRANT_SHARED` and `GRANT_HELD` the transaction's handle, and else 0.
+    /// The handle of the transaction for `GRANT_SHARED` and `GRANT_HELD`, and otherwise 0.
     pub handle: u64,
 }
 
 impl CGrant {
-    /// The same for C.
+    /// Returns this ground in the form for C.
     pub fn of(grant: Option<Grant>) -> CGrant
         ensures { result ≡ grant_told grant }
     {
@@ -32,7 +32,8 @@ impl CGrant {
     }
 }
 
-/// By what an endpoint has its access to a page. Where there is no machine it has none.
+/// Returns the ground on which an endpoint has its access to a page. The kind is `GRANT_NONE` if the endpoint has no
+/// access, and if there is no machine. The machine stays as it was.
 #[unsafe(no_mangle)]
 pub extern "C" fn gorseplumb_granted(machine: &mut CMachine, endpoint: u16, page: u32) -> CGrant
     ensures same { machine.new.held.value ≡ machine.old.held.value }

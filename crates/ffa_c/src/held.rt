@@ -1,5 +1,5 @@
 // SPDX-License-Identifier: MIT OR Apache-2.0
-//! A board as C holds it, or none.
+//! A board as C holds it, or no board.
 ghost use Rattle.std.specs.Prelude.{◌≡◌, Option, Some, None, IsSome};
 ghost use Rattle.std.specs.Coded.{coded_option};
 ghost use Rattle.ffa_c.specs.Boarded.{Boarded, coded_boarded};
@@ -12,7 +12,7 @@ use std::marker::Model;
 /// The pointer to a board in its seat, which owns both, or a pointer that owns nothing.
 #[repr(C)]
 pub struct Held {
-    // It points to a `Seat`. C is told of bytes, since it is to read and write none of them.
+    // It points to a `Seat`. C sees bytes, because C must neither read nor write them.
     at: *mut u8,
     // It takes no bytes.
     alloc: Global,
@@ -31,7 +31,7 @@ impl Held {
     ghost use Rattle.std.specs.Borrow.{sem};
     ghost use Rattle.ffa_c.specs.Follows.{keeps_value, seat_follows};
 
-    /// A null pointer, which owns nothing.
+    /// Returns a null pointer, which owns nothing.
     pub fn none(alloc: Global) -> Held
         ensures { result.value ≡ None }
     {
@@ -41,7 +41,7 @@ impl Held {
         }
     }
 
-    /// The board in this seat, behind its pointer.
+    /// Makes the pointer that owns this seat and the board in it.
     pub fn close(seat: Box<Seat>) -> Held
         requires { IsSome seat.value }
         ensures { result.value ≡ seat.value }
@@ -53,7 +53,7 @@ impl Held {
         }
     }
 
-    /// The board that is held, in its seat.
+    /// Returns the board that is held, in its seat.
     pub fn open(self) -> Box<Seat>
         requires { IsSome self.value }
         ensures { result.value ≡ self.value }
@@ -62,7 +62,7 @@ impl Held {
         unsafe { Box::from_raw(alloc, at as *mut Seat) }
     }
 
-    /// The seat of the board that is held, where it is.
+    /// Borrows the seat of the board that is held, where it is, to change it.
     pub fn seat_mut(&mut self) -> &mut Seat
         requires { IsSome self.old.value }
         ensures* writes_back { sem 𝓛 (seat_follows self.entry result) }
@@ -71,7 +71,7 @@ impl Held {
         unsafe { &mut *(self.at as *mut Seat) }
     }
 
-    /// The board, to be read where it is.
+    /// Borrows the board that is held, where it is, to read it.
     pub fn board(&mut self) -> &Board
         requires { IsSome self.old.value }
         ensures* same { sem 𝓛 (keeps_value self.entry) }
@@ -80,7 +80,7 @@ impl Held {
         self.seat_mut().board()
     }
 
-    /// Lets a pointer go that owns nothing.
+    /// Drops a pointer that owns nothing.
     pub fn end(self)
         requires { self.value ≡ None }
     {

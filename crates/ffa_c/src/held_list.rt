@@ -1,5 +1,5 @@
 // SPDX-License-Identifier: MIT OR Apache-2.0
-//! Lent pages as C holds them, or none.
+//! A list of lent pages as C holds it, or no list.
 ghost use Rattle.std.specs.Prelude.{◌≡◌, Option, Some, None, IsSome};
 ghost use Rattle.std.specs.Coded.{coded_option};
 ghost use Rattle.ffa_c.specs.LentPages.{LentPages, coded_lent_pages};
@@ -8,10 +8,10 @@ use crate::lent_list::LentList;
 use std::alloc::{Allocator, Global};
 use std::marker::Model;
 
-/// The pointer to a list of lent pages, which owns it, or a pointer that owns nothing.
+/// The pointer to a list of lent pages, which owns the list, or a pointer that owns nothing.
 #[repr(C)]
 pub struct HeldList {
-    // It points to a `LentList`. C is told of bytes, since it is to read and write none of them.
+    // It points to a `LentList`. C sees bytes, because C must neither read nor write them.
     at: *mut u8,
     // It takes no bytes.
     alloc: Global,
@@ -29,7 +29,7 @@ impl HeldList {
     ghost use Rattle.std.specs.Borrow.{sem};
     ghost use Rattle.ffa_c.specs.Follows.{keeps_list, list_follows};
 
-    /// A null pointer, which owns nothing.
+    /// Returns a null pointer, which owns nothing.
     pub fn none(alloc: Global) -> HeldList
         ensures { result.value ≡ None }
     {
@@ -39,7 +39,7 @@ impl HeldList {
         }
     }
 
-    /// The list behind this pointer.
+    /// Makes the pointer that owns this list.
     pub fn close(list: Box<LentList>) -> HeldList
         ensures { result.value ≡ Some list.value }
     {
@@ -50,7 +50,7 @@ impl HeldList {
         }
     }
 
-    /// The list that is held, as its box.
+    /// Returns the list that is held, in its box.
     pub fn open(self) -> Box<LentList>
         requires { IsSome self.value }
         ensures { self.value ≡ Some result.value }
@@ -59,7 +59,7 @@ impl HeldList {
         unsafe { Box::from_raw(alloc, at as *mut LentList) }
     }
 
-    /// The list, where it is.
+    /// Borrows the list that is held, where it is, to change it.
     pub fn list_mut(&mut self) -> &mut LentList
         requires { IsSome self.old.value }
         ensures* writes_back { sem 𝓛 (list_follows self.entry result) }
@@ -68,7 +68,7 @@ impl HeldList {
         unsafe { &mut *(self.at as *mut LentList) }
     }
 
-    /// The list, to be read where it is.
+    /// Borrows the list that is held, where it is, to read it.
     pub fn list(&mut self) -> &LentList
         requires { IsSome self.old.value }
         ensures* same { sem 𝓛 (keeps_list self.entry) }
@@ -77,7 +77,7 @@ impl HeldList {
         self.list_mut()
     }
 
-    /// Lets a pointer go that owns nothing.
+    /// Drops a pointer that owns nothing.
     pub fn end(self)
         requires { self.value ≡ None }
     {

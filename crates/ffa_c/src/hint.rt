@@ -1,5 +1,5 @@
 // SPDX-License-Identifier: MIT OR Apache-2.0
-//! What to change after a refusal, as C sees it.
+//! Hints what to change after a refusal, as C sees them.
 ghost use Rattle.std.specs.Prelude.{◌≡◌, Some};
 ghost use Rattle.ffa_model.specs.DescriptorPlaces.{told_access_size};
 ghost use Rattle.ffa_c.specs.Border.{access_code};
@@ -15,18 +15,19 @@ use crate::kind::code_of;
 use ffa_mend::{Cause, Mend, Side};
 use ffa_model::{EndpointId, Kind, Rights, Version, Work};
 
-/// What to change so that an operation is not refused for the reason that was told.
+/// A hint what to change so that an operation is not refused for the reason that C got.
 #[repr(C)]
 #[derive(Clone, Copy)]
 pub struct CHint {
-    /// What the numbers are, as one of `HINT_NONE` to `HINT_BUFFERS_MISSING`, and after that one the other causes of `Cause`.
+    /// The kind of the hint, one of `HINT_NONE` to `HINT_BUFFERS_MISSING`, or after the last one another cause of
+    /// `Cause`.
     pub kind: u32,
-    /// What `kind` says of each. Numbers that it doesn't name are 0.
+    /// The numbers whose meaning `kind` says. A number that the kind does not name is 0.
     pub numbers: [u64; 3],
 }
 
 impl CHint {
-    /// No hint.
+    /// Returns the hint of the kind `HINT_NONE`, which says nothing.
     pub fn none() -> CHint
         ensures { result ≡ no_hint }
     {
@@ -36,7 +37,7 @@ impl CHint {
         }
     }
 
-    /// A hint for C.
+    /// Returns this hint in the form for C.
     pub fn of(mend: Mend) -> CHint
         ensures { result ≡ hint_told mend }
     {
@@ -90,7 +91,7 @@ fn code(right: Rights) -> u64
     u64::from(code_of(Some(right)))
 }
 
-// The size of an access descriptor that a header tells in a version.
+// The size of an access descriptor that a header must have in a version.
 fn access_size(version: Version) -> u64
     ensures { result ≡ told_access_size version }
 {

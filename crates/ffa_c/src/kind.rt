@@ -1,5 +1,5 @@
 // SPDX-License-Identifier: MIT OR Apache-2.0
-//! A machine by where its RAM comes from, and what C asks of any machine.
+//! A machine by the kind of its RAM, and the questions of C to a machine of any kind.
 ghost use Rattle.std.specs.Prelude.{◌≡◌, ◌≤◌, ◌↔◌, IsTrue, length, true};
 ghost use Rattle.ffa_model.specs.Agreement.{Agrees, roots_of};
 ghost use Rattle.ffa_model.specs.Certified.{IsCertified};
@@ -15,7 +15,7 @@ use ffa_spmc::{Cluster, Given, Machine, Store};
 use ffa_tlb::NoTlb;
 use std::alloc::Global;
 
-/// A machine that several processors run, over RAM of the heap, or over RAM that is lent.
+/// A machine that several processors run, over RAM from the heap or over lent RAM.
 #[derive(Drop)]
 pub enum BoardMachine {
     /// The RAM is one piece of the heap.
@@ -24,7 +24,7 @@ pub enum BoardMachine {
     Lent(Cluster<LentRam, NoTlb, Given<Global>>),
 }
 
-/// Does an operation of whoever runs on the selected processor, and tells C what came of it.
+/// Does an operation of the runner of the selected processor, and writes its effect for C.
 #[inline(always)]
 pub(crate) fn operate<M: Observed + Drop, S: Store>(
     cluster: &mut Cluster<M, NoTlb, S>,
@@ -39,7 +39,7 @@ pub(crate) fn operate<M: Observed + Drop, S: Store>(
     outcome.tell(&effect);
 }
 
-/// The address of an endpoint's level 1 table, or `NOTHING` where there is no such endpoint.
+/// Returns the address of an endpoint's level 1 table, or `NOTHING` if there is no such endpoint.
 pub(crate) fn root_by<M: PhysMem + Drop, S: Store>(
     machine: &Machine<M, NoTlb, S>,
     endpoint: EndpointId,
@@ -67,7 +67,7 @@ pub(crate) fn audited_by<M: PhysMem + Drop, S: Store>(
     machine.audit(runs)
 }
 
-/// The owner of a page, or `NOTHING` where there is no such page; 0x8000 is the manager.
+/// Returns the owner of a page, with 0x8000 for the manager, or `NOTHING` if there is no such page.
 pub(crate) fn owner_by<M: PhysMem + Drop, S: Store>(
     machine: &Machine<M, NoTlb, S>,
     page: PageNo,
@@ -81,7 +81,7 @@ pub(crate) fn owner_by<M: PhysMem + Drop, S: Store>(
     }
 }
 
-/// The longest run from a page on, where there is such a page.
+/// Returns the longest run from a page on, if there is such a page.
 pub(crate) fn run_by<M: PhysMem + Drop, S: Store>(
     machine: &Machine<M, NoTlb, S>,
     page: PageNo,
@@ -95,7 +95,8 @@ pub(crate) fn run_by<M: PhysMem + Drop, S: Store>(
     }
 }
 
-/// `READ` for a right to read, `WRITE` for one to write too, `EXECUTE` more for one to execute, and 0 for none.
+/// Returns the number that C has for a right: `READ` to read, `WRITE` to read and write, `EXECUTE` more to execute, and
+/// 0 for no right.
 pub(crate) fn code_of(rights: Option<Rights>) -> u32
     ensures { result ≡ access_code rights }
 {

@@ -15,22 +15,22 @@ use ffa_lent::{Lent, Slot};
 use std::alloc::Global;
 use std::mem;
 
-/// A list of lent pages, or none. Memory of zeros is none.
+/// A list of lent pages, or no list. Memory of zeros has no list.
 #[repr(C)]
 pub struct CLent {
     /// Whether there is a list.
     pub live: bool,
-    /// Where it is.
+    /// The pointer to the list.
     pub held: HeldList,
     pub ghost agree: { live ≡ is_some held.value },
 }
 
-/// A page's memory, or none. Memory of zeros is none.
+/// A page's memory, or no page. Memory of zeros has no page.
 #[repr(C)]
 pub struct CSlot {
     /// Whether there is a page.
     pub live: bool,
-    /// Where it is.
+    /// The pointer to the page.
     pub page: Slot,
     pub ghost agree: { live ≡ is_some page.bytes },
 }
@@ -49,7 +49,7 @@ fn take_list(lent: &mut CLent, alloc: Global) -> Option<Box<LentList>>
     }
 }
 
-// Puts a list where there is none.
+// Puts a list at a place without a list.
 fn put_list(lent: &mut CLent, list: Box<LentList>)
     requires { lent.old.held.value ≡ None }
     ensures { lent.new.held.value ≡ Some list.value }
@@ -75,7 +75,7 @@ fn take_page(slot: &mut CSlot) -> Option<Box<[u8; 4096], Lent>>
     }
 }
 
-// Puts a page where there is none.
+// Puts a page at a place without a page.
 #[inline]
 fn put_page(slot: &mut CSlot, page: Box<[u8; 4096], Lent>)
     requires { slot.old.page.bytes ≡ None }
@@ -85,8 +85,9 @@ fn put_page(slot: &mut CSlot, page: Box<[u8; 4096], Lent>)
     slot.live = true;
 }
 
-/// Makes an empty list with room for so many pages, and with all that a machine in them takes beside them. 0 is that it
-/// was made. Else nothing has changed: `OCCUPIED`, where there is a list, or `NO_MEMORY`.
+/// Makes an empty list with room for this number of pages, and with all memory that a machine in them needs. Returns
+/// `OK` if the list was made. Otherwise returns `OCCUPIED` if there is already a list, or `NO_MEMORY`. Then nothing has
+/// changed.
 #[unsafe(no_mangle)]
 pub extern "C" fn gorseplumb_begin_lending(alloc: Global, lent: &mut CLent, pages: u32) -> u32
     ensures answer { result ≢ NO_MEMORY → result ≡ begun_answer (pages_of lent.old.held.value) }
@@ -106,7 +107,7 @@ pub extern "C" fn gorseplumb_begin_lending(alloc: Global, lent: &mut CLent, page
     }
 }
 
-// A list without pages, with room for so many.
+// A list without pages, with room for this number of pages.
 fn empty_list(alloc: Global, pages: usize) -> Option<Box<LentList>>
     ensures { IfSome result (λ b. b.value ≡ empty pages) }
 {
@@ -116,15 +117,16 @@ fn empty_list(alloc: Global, pages: usize) -> Option<Box<LentList>>
     boxed_list(alloc, list)
 }
 
-// A list in a box, if there is memory for that.
+// A list in a box, if there is memory for the box.
 fn boxed_list(alloc: Global, list: LentList) -> Option<Box<LentList>>
     ensures { IfSome result (λ b. b.value ≡ list) }
 {
     Box::new(alloc, list).ok()
 }
 
-/// Moves a page from its slot to the end of the list. 0 is that it was moved. Else no page was: `NO_LIST`, `NO_PAGE`,
-/// where there is none in the slot, or `NO_MEMORY`, where the list has no room for it.
+/// Moves a page from its slot to the end of the list, and leaves the slot empty. Returns `OK` if the page has moved.
+/// Otherwise returns `NO_LIST` if there is no list, `NO_PAGE` if the slot has no page, or `NO_MEMORY` if the list has
+/// no room for the page. Then the list and the slot have the same pages as before, at the same places.
 #[unsafe(no_mangle)]
 pub extern "C" fn gorseplumb_lend(lent: &mut CLent, slot: &mut CSlot) -> u32
     ensures answer { result ≢ NO_MEMORY → result ≡ lent_answer (pages_of lent.old.held.value) slot.old.page.bytes }
@@ -174,9 +176,9 @@ fn lend_to(list: &mut LentList, slot: &mut CSlot) -> u32
     }
 }
 
-/// Moves the last page of the list to the slot, which is empty. 0 is that it was moved. Else nothing has changed:
-/// `NO_LIST`, `OCCUPIED`, where there is a page in the slot, or `NO_PAGE`, where the list has none. The list's room
-/// stays.
+/// Moves the last page of the list to an empty slot. Returns `OK` if the page has moved. Otherwise returns `NO_LIST` if
+/// there is no list, `OCCUPIED` if the slot has a page, or `NO_PAGE` if the list has no page. Then nothing has changed.
+/// With each answer, the list's room stays as it was.
 #[unsafe(no_mangle)]
 pub extern "C" fn gorseplumb_take_back(lent: &mut CLent, slot: &mut CSlot) -> u32
     ensures answer { result ≡ taken_answer (pages_of lent.old.held.value) slot.old.page.bytes }
@@ -222,7 +224,7 @@ fn take_from(list: &mut LentList, slot: &mut CSlot) -> u32
     }
 }
 
-/// The number of pages in the list; 0 where there is none.
+/// Returns the number of pages in the list, or 0 if there is no list. The list stays as it was.
 #[unsafe(no_mangle)]
 pub extern "C" fn gorseplumb_lent_pages(lent: &mut CLent) -> u64
     ensures same { lent.new.held.value ≡ lent.old.held.value }
@@ -235,7 +237,8 @@ pub extern "C" fn gorseplumb_lent_pages(lent: &mut CLent) -> u64
     }
 }
 
-/// Ends an empty list. 0 is that it is none now. Else nothing has changed: `NO_LIST`, or `HAS_PAGES`.
+/// Ends an empty list. Returns `OK` if the list has ended. Otherwise returns `NO_LIST` if there is no list, or
+/// `HAS_PAGES` if the list has pages. Then nothing has changed.
 #[unsafe(no_mangle)]
 pub extern "C" fn gorseplumb_end_lending(alloc: Global, lent: &mut CLent) -> u32
     ensures answer { result ≡ list_answer (pages_of lent.old.held.value) }
@@ -263,10 +266,11 @@ fn answer_for(lent: &mut CLent) -> u32
     }
 }
 
-/// Ends a machine. RAM of the heap is given back to it. RAM that was lent goes, page by page and in order, with the
-/// bytes that it had in the end, to the list, which has to be there and empty, and so does the machine's own memory:
-/// the next boot in these pages takes none, whichever endpoints it has. 0 is that the machine has ended. Else nothing has
-/// changed: `NO_MACHINE`, and for RAM that was lent `NO_LIST` or `HAS_PAGES`.
+/// Ends a machine. RAM from the heap goes back to the heap, and the list stays as it was. Lent RAM goes back to the
+/// list, which must be there and be empty: page by page, in order, with the bytes that the pages had in the end. The
+/// machine's own memory goes to the list too. So the list is ready for a boot in these pages, whichever endpoints the
+/// next machine has. Returns `OK` if the machine has ended. Otherwise returns `NO_MACHINE` if there is no machine, and
+/// for lent RAM `NO_LIST` if there is no list, or `HAS_PAGES` if the list has pages. Then nothing has changed.
 #[unsafe(no_mangle)]
 pub extern "C" fn gorseplumb_end(alloc: Global, machine: &mut CMachine, lent: &mut CLent) -> u32
     ensures answer { result ≡ freed_answer machine.old.held.value (pages_of lent.old.held.value) }

@@ -1,5 +1,5 @@
 // SPDX-License-Identifier: MIT OR Apache-2.0
-//! The list of lent pages, with what a machine in them needs.
+//! The list of lent pages, with the memory that a machine in them needs.
 ghost use Rattle.std.specs.Prelude.{◌≡◌, ◌↔◌, ◌+◌, ◌*◌, ◌%◌, ◌^◌, ◌<◌, ◌≤◌, ◌++◌, ◌∷◌, [], All, true, false, Some, None, IfOk, IfErr, IfSome, IsTrue, is_ok, length, if◌then◌else◌};
 ghost use Rattle.std.specs.Option.{option_map, option_to_list};
 ghost use Rattle.ffa_lent.specs.LentRam.{copies_of, places_of, ram_of};
@@ -23,9 +23,9 @@ use std::alloc::{AllocError, Global};
 use std::marker::Model;
 use std::mem;
 
-/// Pages that are lent, and beside them memory for the machine that is booted in them: its place, and room for what it
-/// keeps. Contracts see the bytes of each page, where it lies, for how many there is room, and how many RAM may have so
-/// that a boot takes no memory.
+/// Lent pages, and the memory for the machine that is booted in them: its place, and room for its data. Contracts see
+/// the bytes of each page, where each page is, for how many pages there is room, and how many pages the list is ready
+/// for. If RAM has at most this last number of pages, a boot takes no memory.
 #[derive(Drop)]
 pub struct LentList {
     frames: Frames,
@@ -45,14 +45,15 @@ impl Model for LentList {
     ghost view = { λ l. let ready_for = ready_pages l.frames.is_ready (is_some l.seat) l.storage in
         record { pages = l.frames.pages; places = l.frames.places; room = l.frames.room; ready_for = ready_for } };
 
-    // No machine stands in the seat.
+    // There is no machine in the seat.
     ghost invariant = { λ l. IfSome l.seat (λ b. b.value ≡ None) };
 }
 
 impl LentList {
     ghost use Rattle.ffa_lent.specs.Places.{place_of, places_in};
 
-    /// No pages, room for so many, and memory for a machine in them.
+    /// Makes a list without pages, with room for this number of pages, and with memory for a machine in them. Returns
+    /// an error if there is no memory.
     pub fn with_room(alloc: Global, pages: usize) -> Result<LentList, AllocError>
         ensures { IfOk result (λ l. l ≡ empty pages) }
     {
@@ -66,14 +67,14 @@ impl LentList {
         })
     }
 
-    /// The number of pages.
+    /// Returns the number of pages in the list.
     pub fn pages(&self) -> usize
         ensures { result ≡ length self.now.pages }
     {
         self.frames.pages()
     }
 
-    /// Adds a page behind the others. Where there is no room and no memory for that, the page comes back.
+    /// Adds a page at the end of the list. If there is no room and no memory for more room, the page comes back.
     pub fn lend(&mut self, page: Box<[u8; 4096], Lent>) -> Result<(), Box<[u8; 4096], Lent>>
         ensures pages { self.new.pages ≡ (if is_ok result then self.old.pages ++ page.value ∷ [] else self.old.pages) }
         ensures places { self.new.places ≡ (if is_ok result then self.old.places ++ place_of page ∷ [] else self.old.places) }
@@ -85,7 +86,7 @@ impl LentList {
         self.frames.lend(page)
     }
 
-    /// Takes the last page out, if there is one.
+    /// Takes the last page out of the list, if there is a page.
     pub fn take_back(&mut self) -> Option<Box<[u8; 4096], Lent>>
         ensures last { self.old.pages ≡ self.new.pages ++ option_to_list (option_map (λ b. b.value) result) }
         ensures places { self.old.places ≡ self.new.places ++ option_to_list (option_map place_of result) }
@@ -96,8 +97,8 @@ impl LentList {
         self.frames.take_back()
     }
 
-    /// Adds the pages of a span behind the others, in order. Where there is no room and no memory for all of them, they
-    /// come back, and nothing changes.
+    /// Adds the pages of a span at the end of the list, in order. If there is no room and no memory for all of them,
+    /// the span comes back, and nothing has changed.
     pub fn lend_span(&mut self, span: Span) -> Result<(), Span>
         ensures lent { IfOk result (λ _. self.new.pages ≡ self.old.pages ++ span.strip.pages) }
         ensures places { IfOk result (λ _. self.new.places ≡ self.old.places ++ places_in span.strip) }
@@ -110,8 +111,8 @@ impl LentList {
         self.frames.lend_span(span)
     }
 
-    /// Boots the machine of a manifest in the pages, which it clears, or whose bytes it keeps, and leaves none. It
-    /// takes memory only for what the list lacks, and where that is refused the list is as before.
+    /// Boots the machine of a manifest in the pages, and leaves the list empty. It clears the pages, or keeps their
+    /// bytes. It takes only the memory that the list lacks. If an allocation is refused, the list is as it was.
     #[inline(never)]
     pub fn boot(
         &mut self,
@@ -132,8 +133,8 @@ impl LentList {
         Ok(seat)
     }
 
-    /// Copies a machine into the pages, of which it writes every byte, and leaves none. It takes memory only for what the
-    /// list lacks, and where that is refused the list is as before.
+    /// Copies a machine into the pages, and leaves the list empty. It writes every byte of the pages. It takes only the
+    /// memory that the list lacks. If an allocation is refused, the list is as it was.
     #[inline(never)]
     pub fn copy(&mut self, alloc: Global, original: &Board) -> Result<Box<Seat>, AllocError>
         requires { length self.old.pages ≡ length original.now.machine.ram.pages }
@@ -148,8 +149,9 @@ impl LentList {
         Ok(seat)
     }
 
-    // Takes out what a machine of a manifest stands in: its place, RAM over the pages, and room for what it keeps. It takes
-    // memory only for what the list lacks, and where that is refused the list is as before. Not inlined, so that no boot and no copy has its frame.
+    // Takes out what a machine of a manifest needs: its place, RAM over the pages, and room for its data. It takes only
+    // the memory that the list lacks. If an allocation is refused, the list is as it was. It is not inlined, so that no
+    // boot and no copy has its frame.
     #[inline(never)]
     fn open(
         &mut self,
@@ -183,8 +185,9 @@ impl LentList {
         }
     }
 
-    /// Whether the tables from these roots give what runs of pages say, in RAM at this address whose pages are those of
-    /// the list. It takes memory only for what the list lacks, and where that is refused the list is as before.
+    /// Checks whether the tables from these roots give what runs of pages say. RAM begins at this address, and its
+    /// pages are the pages of the list. It takes only the memory that the list lacks. If an allocation is refused, the
+    /// list is as it was.
     pub fn audit(
         &mut self,
         alloc: Global,
@@ -217,8 +220,8 @@ impl LentList {
         }
     }
 
-    /// Ends the machine in a seat, whose RAM is lent: its pages are those of the list, with the bytes that they had in
-    /// the end, and so is its memory, so that a boot in them takes none.
+    /// Ends the machine in a seat, whose RAM is lent. The list then has the machine's pages, with the bytes that they
+    /// had in the end, and the machine's memory. So a boot in these pages takes no memory.
     pub fn take_in(&mut self, seat: Box<Seat>)
         requires { lends seat.value ≡ Some true }
         ensures pages { Some self.new.pages ≡ ram_pages seat.value }
@@ -233,7 +236,7 @@ impl LentList {
     }
 }
 
-// The room that is there, or other room, made room for the machine of a manifest.
+// Takes the room that is there, or other room, and makes it room for the machine of a manifest.
 fn storage_in(
     own: &mut Option<Storage<Given<Global>>>,
     alloc: Global,
@@ -255,7 +258,7 @@ fn storage_in(
     }
 }
 
-// The seat that is there, or another.
+// Takes the seat that is there, or another seat.
 fn seat_in(own: &mut Option<Box<Seat>>, alloc: Global) -> Result<Box<Seat>, AllocError>
     requires { IfSome own.old (λ b. b.value ≡ None) }
     ensures empty { IfOk result (λ b. b.value ≡ None) }

@@ -1,7 +1,8 @@
 // SPDX-License-Identifier: MIT OR Apache-2.0
-//! The static library for C: the functions that c/gorseplumb.h declares. Its operations promise what `Cluster::op` promises. Boots say that the machine is in its first state; questions, changes and lists
-//! have promises of their own. A function has the name that it has in C; what is `struct gorseplumb_machine` there is
-//! `CMachine` here, and so on.
+//! The static library for C: the functions that c/gorseplumb.h declares. Its operations promise what `Cluster::op`
+//! promises. A boot promises that the machine is in its first state. Questions, changes and lists have promises of
+//! their own. A function has the same name here and in C. `struct gorseplumb_machine` of C is `CMachine` here, and the
+//! other structs have names of the same form.
 #![tactic(auto)]
 
 pub mod audit;

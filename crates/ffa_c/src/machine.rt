@@ -8,17 +8,17 @@ use crate::seat::Seat;
 use std::alloc::Global;
 use std::mem;
 
-/// What C holds: a machine, or none. Memory of zeros is none.
+/// A machine that C holds, or no machine. Memory of zeros has no machine.
 #[repr(C)]
 pub struct CMachine {
     /// Whether there is a machine.
     pub live: bool,
-    /// Where it is.
+    /// The pointer to the machine.
     pub held: Held,
     pub ghost agree: { live ≡ is_some held.value },
 }
 
-/// Takes the machine out, in its seat.
+/// Takes the machine out, in its seat, if there is a machine.
 pub fn take(machine: &mut CMachine, alloc: Global) -> Option<Box<Seat>>
     ensures taken { machine.old.held.value ≡ option_and_then (λ b. b.value) result }
     ensures there { IfSome result (λ b. IsSome b.value) }
@@ -34,14 +34,14 @@ pub fn take(machine: &mut CMachine, alloc: Global) -> Option<Box<Seat>>
 }
 
 /// Ends the machine. All its memory goes back to where it came from: the seat has no other way out of this function.
-// No clause says so, since the logic may let memory go. `tests/docs` looks for code that keeps it.
+// No clause says so, because the logic may drop memory. `tests/docs` looks for code that keeps it.
 pub fn end(machine: &mut CMachine, alloc: Global)
     ensures { machine.new.held.value ≡ None }
 {
     drop(take(machine, alloc));
 }
 
-/// Puts a machine, in its seat, where there is none.
+/// Puts a machine, in its seat, at a place without a machine.
 pub fn put(machine: &mut CMachine, seat: Box<Seat>)
     requires none { machine.old.held.value ≡ None }
     requires there { IsSome seat.value }

@@ -1,5 +1,5 @@
 // SPDX-License-Identifier: MIT OR Apache-2.0
-//! A manifest as C gives it, without a text.
+//! A manifest as numbers, which C passes without a text.
 ghost use Rattle.std.specs.Prelude.{◌≡◌, ◌≤◌, [], Some, None, IfOk, IfErr, length};
 ghost use Rattle.ffa_manifest.specs.Document.{parts_of};
 ghost use Rattle.ffa_manifest.specs.Reading.{Exact};
@@ -14,50 +14,53 @@ use ffa_model::{
     Rights, Version,
 };
 
-/// Pages in a row that an endpoint owns from the start.
+/// Adjacent pages that an endpoint owns from the start, as C passes them.
 #[repr(C)]
 #[derive(Clone, Copy)]
 pub struct CRegion {
     /// The address of the first byte.
     pub base: u32,
-    /// How many pages.
+    /// The number of pages.
     pub pages: u32,
-    /// The right to them: 1 to read, 3 to write too, and 4 more to execute.
+    /// The right to the pages: 1 to read, 3 to read and write, and 4 more to execute.
     pub rights: u32,
 }
 
-/// An endpoint. The first is the normal world.
+/// An endpoint of a manifest as numbers. The first endpoint is the normal world.
 #[repr(C)]
 #[derive(Clone, Copy)]
 pub struct CEndpoint {
-    /// The form of its descriptors: 0 is that of FF-A 1.1, 1 the compact one, 2 that of FF-A 1.2.
+    /// The form of its descriptors: 0 for FF-A 1.1, 1 for the compact form, and 2 for FF-A 1.2.
     pub version: u32,
-    /// What it takes part in, as bits.
+    /// The properties of the endpoint, as bits.
     pub properties: u32,
-    /// Zeros for the normal world.
+    /// The UUID of the endpoint, which is zeros for the normal world.
     pub uuid: [u8; 16],
-    /// How many of `regions` are given.
+    /// The number of `regions` that C passes, from the first on.
     pub region_count: u32,
+    /// The regions. The library does not read the places after the counted ones.
     pub regions: [CRegion; MOST_REGIONS],
 }
 
-/// A manifest: a machine's RAM, and its endpoints.
+/// A manifest as numbers: a machine's RAM, and its endpoints.
 #[repr(C)]
 #[derive(Clone, Copy)]
 pub struct CManifest {
     /// The address of RAM's first byte.
     pub ram_base: u32,
-    /// RAM's size, in blocks of 2 MiB.
+    /// The number of RAM's blocks of 2 MiB.
     pub ram_blocks: u32,
-    /// How many of `endpoints` are given.
+    /// The number of `endpoints` that C passes, from the first on.
     pub endpoint_count: u32,
+    /// The endpoints. The library does not read the places after the counted ones.
     pub endpoints: [CEndpoint; MOST_ENDPOINTS],
     /// The version of FF-A that the machine serves: `FFA_1_1` or `FFA_1_2`.
     pub ffa: u32,
-    /// The first page of the tables, counted from RAM's first, which is 0.
+    /// The first page of the tables. RAM's first page is 0.
     pub tables: u32,
 }
 
+/// Returns the right for which C has this number, if there is such a right.
 pub(crate) fn rights_of(code: u32) -> Option<Rights>
     ensures { result ≡ rights_given code }
 {
@@ -71,6 +74,7 @@ pub(crate) fn rights_of(code: u32) -> Option<Rights>
     Some(Rights { level, exec })
 }
 
+/// Returns the form of descriptors for which C has this number, if there is such a form.
 pub(crate) fn version_of(code: u32) -> Option<Version>
     ensures { result ≡ version_given code }
 {
@@ -82,6 +86,7 @@ pub(crate) fn version_of(code: u32) -> Option<Version>
     }
 }
 
+/// Returns the version of FF-A for which C has this number, if there is such a version.
 pub(crate) fn ffa_of(code: u32) -> Option<Ffa>
     ensures { result ≡ ffa_given code }
 {
@@ -92,6 +97,7 @@ pub(crate) fn ffa_of(code: u32) -> Option<Ffa>
     }
 }
 
+/// Returns the region of C's numbers, or the cause for which the library rejects them.
 pub(crate) fn region_of(given: &CRegion) -> Result<Region, ManifestError>
     ensures { Exact (λ r. r) result (region_given given.now) }
 {
@@ -116,7 +122,7 @@ fn regions_of(given: &[CRegion]) -> Result<ArrayVec<Region, MOST_REGIONS>, Manif
     Ok(regions)
 }
 
-// The regions that an endpoint gives, where its array has so many places.
+// The regions that an endpoint has, if its array has this number of places.
 fn counted_regions(given: &CEndpoint) -> Result<ArrayVec<Region, MOST_REGIONS>, ManifestError>
     ensures { Exact (λ rs. rs.items) result (regions_given given.now) }
 {
@@ -128,6 +134,7 @@ fn counted_regions(given: &CEndpoint) -> Result<ArrayVec<Region, MOST_REGIONS>, 
     }
 }
 
+/// Returns the endpoint of C's numbers, or the first cause for which the library rejects them.
 pub(crate) fn endpoint_of(given: &CEndpoint) -> Result<Endpoint, ManifestError>
     ensures { Exact (λ e. e) result (endpoint_given given.now) }
 {
@@ -154,7 +161,7 @@ fn endpoints_of(given: &[CEndpoint]) -> Result<ArrayVec<Endpoint, MOST_ENDPOINTS
     Ok(endpoints)
 }
 
-// The endpoints that are given, where the array has so many places.
+// The endpoints that C passes, if the array has this number of places.
 pub(crate) fn counted_endpoints(
     given: &CManifest,
 ) -> Result<ArrayVec<Endpoint, MOST_ENDPOINTS>, ManifestError>
@@ -168,8 +175,8 @@ pub(crate) fn counted_endpoints(
     }
 }
 
-/// The manifest that C's numbers give, or the first cause for which they are refused. It takes no memory.
-// Not inlined, so that no boot has its frame.
+/// Returns the manifest of C's numbers, or the first cause for which the library rejects them. It takes no memory.
+// It is not inlined, so that no boot has its frame.
 #[inline(never)]
 #[tactic(auto, using(crate::proofs::Given::parts_told))]
 pub(crate) fn manifest_of_numbers(given: &CManifest) -> Result<Manifest, ManifestError>

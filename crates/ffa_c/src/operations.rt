@@ -11,25 +11,26 @@ use crate::machine::CMachine;
 use crate::outcome::COutcome;
 use ffa_model::Op;
 
-/// An operation of the endpoint that runs. What its kind doesn't name is not read.
+/// An operation in a list of C. The library does not read a field that the kind does not use.
 #[repr(C)]
 #[derive(Clone, Copy)]
 pub struct COperation {
-    /// What it is, as one of `OPERATION_CALL` to `OPERATION_FETCH`.
+    /// The kind of the operation, one of `OPERATION_CALL` to `OPERATION_FETCH`.
     pub kind: u32,
-    /// Of a load and of a store: how many bytes.
+    /// The number of bytes of a load or a store.
     pub size: u32,
-    /// Of a load, a store and a fetch.
+    /// The address of a load, a store or a fetch.
     pub address: u64,
-    /// Of a store.
+    /// The value of a store.
     pub value: u64,
-    /// Of a call: its registers.
+    /// The registers of a call, x0 to x7.
     pub x: [u64; 8],
 }
 
-/// Does operations one after another, each of the endpoint that runs then, and each as the call for it alone, as many
-/// as both lists have places: so many it answers. Of a kind that there isn't, and of a size that there isn't, nothing
-/// is done, and the rest goes on.
+/// Does the operations of a list one after another. Each operation is of the endpoint that runs at that time, and does
+/// what the function of its kind does. Returns the number of operations that it did: the lesser of the lengths of both
+/// lists. For an unknown kind or size, nothing is done, the kind of the outcome is `KIND_BAD_SIZE`, and the next
+/// operation follows. The other places of `outcomes` stay as they were.
 #[unsafe(no_mangle)]
 pub extern "C" fn gorseplumb_run(
     machine: &mut CMachine,

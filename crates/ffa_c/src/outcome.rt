@@ -9,21 +9,22 @@ use crate::codes::{
 };
 use ffa_model::{Effect, FaultKind, Outcome};
 
-/// What an operation gives. What its kind doesn't name is zero.
+/// The outcome of an operation or an interrupt, as C sees it. A field that the kind does not name is zero.
 #[repr(C)]
 #[derive(Clone, Copy)]
 pub struct COutcome {
-    /// What it is, as one of `KIND_REGISTERS` to `KIND_RESUMED`.
+    /// The kind of the outcome, one of `KIND_REGISTERS` to `KIND_RESUMED`.
     pub kind: u32,
-    /// The endpoint that runs next, with registers or where it was.
+    /// The endpoint that runs next, with registers or where an interrupt stopped it.
     pub runner: u32,
-    /// The data, or the fault, as one of `FAULT_TRANSLATION` to `FAULT_OUTSIDE_RAM`.
+    /// The data of a load or a fetch; or the fault, one of `FAULT_TRANSLATION` to `FAULT_OUTSIDE_RAM`.
     pub value: u64,
+    /// The registers x0 to x7 that the runner sees.
     pub x: [u64; 8],
 }
 
 impl COutcome {
-    /// An outcome for C.
+    /// Returns this outcome in the form for C.
     #[inline]
     pub fn of(outcome: &Outcome) -> COutcome
         ensures { result ≡ packed outcome.now }
@@ -33,7 +34,7 @@ impl COutcome {
         told
     }
 
-    /// What an operation gives, filled in where it stands.
+    /// Writes the effect of an operation to this outcome, in place.
     #[inline]
     pub fn tell(&mut self, effect: &Effect)
         ensures { self.new ≡ packed_effect effect.now }
@@ -51,7 +52,7 @@ impl COutcome {
         }
     }
 
-    // The outcome of an operation that no partition goes on by.
+    // Writes the outcome of an operation by which no partition resumes.
     #[inline]
     fn tell_outcome(&mut self, outcome: &Outcome)
         ensures { self.new ≡ packed outcome.now }
@@ -71,7 +72,7 @@ impl COutcome {
         }
     }
 
-    /// Nothing was done, for this reason.
+    /// Returns the outcome of this kind after which nothing was done.
     pub fn nothing(kind: u32) -> COutcome
         ensures { result ≡ nothing_done kind }
     {
@@ -93,7 +94,7 @@ fn plain(kind: u32, value: u64) -> COutcome
     }
 }
 
-/// A fault for C.
+/// Returns the number that C has for a fault.
 pub(crate) fn fault_code(fault: FaultKind) -> u32
     ensures { result ≡ fault_number fault }
 {

@@ -1,5 +1,5 @@
 // SPDX-License-Identifier: MIT OR Apache-2.0
-//! The questions that C asks of a machine, which change nothing: they read it where it is.
+//! The questions that C asks about a machine. They change nothing, and read the machine where it is.
 ghost use Rattle.std.specs.Prelude.{◌≡◌, Some, None, IfSome, length, true, false};
 ghost use Rattle.ffa_model.specs.Access.{access};
 ghost use Rattle.ffa_model.specs.Agreement.{blocks_of};
@@ -10,13 +10,15 @@ use crate::codes::NOTHING;
 use crate::machine::CMachine;
 use ffa_physmem::PAGE_SIZE;
 
-/// The bytes of a page.
+/// The bytes of a page, as C sees them.
 #[repr(C)]
 pub struct CPage {
+    /// All bytes of the page.
     pub bytes: [u8; PAGE_SIZE],
 }
 
-/// The endpoint that runs.
+/// Returns the endpoint that runs on the selected processor, or `NOTHING` if there is no machine. The machine stays as
+/// it was.
 #[unsafe(no_mangle)]
 pub extern "C" fn gorseplumb_runner(machine: &mut CMachine) -> u32
     ensures same { machine.new.held.value ≡ machine.old.held.value }
@@ -29,7 +31,7 @@ pub extern "C" fn gorseplumb_runner(machine: &mut CMachine) -> u32
     }
 }
 
-/// The number of endpoints.
+/// Returns the number of endpoints, or `NOTHING` if there is no machine. The machine stays as it was.
 #[unsafe(no_mangle)]
 pub extern "C" fn gorseplumb_endpoints(machine: &mut CMachine) -> u32
     ensures same { machine.new.held.value ≡ machine.old.held.value }
@@ -42,7 +44,7 @@ pub extern "C" fn gorseplumb_endpoints(machine: &mut CMachine) -> u32
     }
 }
 
-/// RAM's first address.
+/// Returns RAM's first address, or `NOTHING` if there is no machine. The machine stays as it was.
 #[unsafe(no_mangle)]
 pub extern "C" fn gorseplumb_ram_base(machine: &mut CMachine) -> u32
     ensures same { machine.new.held.value ≡ machine.old.held.value }
@@ -55,7 +57,7 @@ pub extern "C" fn gorseplumb_ram_base(machine: &mut CMachine) -> u32
     }
 }
 
-/// How many blocks of 2 MiB RAM has.
+/// Returns the number of RAM's blocks of 2 MiB, or `NOTHING` if there is no machine. The machine stays as it was.
 #[unsafe(no_mangle)]
 pub extern "C" fn gorseplumb_ram_blocks(machine: &mut CMachine) -> u32
     ensures same { machine.new.held.value ≡ machine.old.held.value }
@@ -68,7 +70,8 @@ pub extern "C" fn gorseplumb_ram_blocks(machine: &mut CMachine) -> u32
     }
 }
 
-/// The address of an endpoint's level 1 table, where there is such an endpoint.
+/// Returns the address of an endpoint's level 1 table. Returns `NOTHING` if there is no machine, or if the machine has
+/// no such endpoint. The machine stays as it was.
 #[unsafe(no_mangle)]
 pub extern "C" fn gorseplumb_root(machine: &mut CMachine, endpoint: u16) -> u32
     ensures same { machine.new.held.value ≡ machine.old.held.value }
@@ -81,7 +84,8 @@ pub extern "C" fn gorseplumb_root(machine: &mut CMachine, endpoint: u16) -> u32
     }
 }
 
-/// The owner of a page of the RAM; 0x8000 is the manager.
+/// Returns the owner of a page of RAM: the identifier of an endpoint, or 0x8000 for the manager. Returns `NOTHING` if
+/// there is no machine, or if the machine has no such page. The machine stays as it was.
 #[unsafe(no_mangle)]
 pub extern "C" fn gorseplumb_owner(machine: &mut CMachine, page: u32) -> u32
     ensures same { machine.new.held.value ≡ machine.old.held.value }
@@ -94,7 +98,9 @@ pub extern "C" fn gorseplumb_owner(machine: &mut CMachine, page: u32) -> u32
     }
 }
 
-/// The right of an endpoint to a page: 0 is none, 1 to read, 3 to write too, and 4 more to execute.
+/// Returns the right of an endpoint to a page: 0 for no right, 1 to read, 3 to read and write, and 4 more to execute.
+/// Returns 0 also if the machine has no such endpoint or page, and `NOTHING` if there is no machine. The machine stays
+/// as it was.
 #[unsafe(no_mangle)]
 pub extern "C" fn gorseplumb_access(machine: &mut CMachine, endpoint: u16, page: u32) -> u32
     ensures same { machine.new.held.value ≡ machine.old.held.value }
@@ -107,7 +113,9 @@ pub extern "C" fn gorseplumb_access(machine: &mut CMachine, endpoint: u16, page:
     }
 }
 
-/// Whether an endpoint has a notification pending.
+/// Returns true if an endpoint has a pending notification, which its next FFA_NOTIFICATION_GET of all classes would
+/// return. Returns false if no notification is pending, if there is no such endpoint, or if there is no machine. The
+/// machine stays as it was.
 #[unsafe(no_mangle)]
 pub extern "C" fn gorseplumb_npi_pending(machine: &mut CMachine, endpoint: u16) -> bool
     ensures same { machine.new.held.value ≡ machine.old.held.value }
@@ -120,8 +128,9 @@ pub extern "C" fn gorseplumb_npi_pending(machine: &mut CMachine, endpoint: u16) 
     }
 }
 
-/// Whether the normal world would be told by FFA_NOTIFICATION_INFO_GET that an endpoint has notifications pending: whether its
-/// interrupt that schedules receivers is to be pending. On a machine of FF-A 1.1, which tells nobody, it is not.
+/// Returns true if FFA_NOTIFICATION_INFO_GET would name an endpoint to the normal world. The normal world's schedule
+/// receiver interrupt must then be pending. Returns false if that call would name no endpoint, on each machine of FF-A
+/// 1.1, and if there is no machine. The machine stays as it was.
 #[unsafe(no_mangle)]
 pub extern "C" fn gorseplumb_sri_pending(machine: &mut CMachine) -> bool
     ensures same { machine.new.held.value ≡ machine.old.held.value }
@@ -134,7 +143,8 @@ pub extern "C" fn gorseplumb_sri_pending(machine: &mut CMachine) -> bool
     }
 }
 
-/// Copies the bytes of a page, and says whether there is such a page.
+/// Copies the bytes of a page of RAM to `bytes`, and returns true. Returns false if there is no machine, or if the
+/// machine has no such page. Then `bytes` stays as it was. The machine stays as it was.
 #[unsafe(no_mangle)]
 pub extern "C" fn gorseplumb_read_page(machine: &mut CMachine, page: u32, bytes: &mut CPage) -> bool
     ensures same { machine.new.held.value ≡ machine.old.held.value }

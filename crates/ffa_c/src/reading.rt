@@ -14,9 +14,10 @@ use bitflags::Flags;
 use ffa_model::{Endpoint, Ffa, MOST_ENDPOINTS, MOST_REGIONS, Manifest, Region, Version};
 use std::alloc::Global;
 
-/// Reads a manifest's text into the numbers that give what it describes, with zeros behind the endpoints and regions
-/// that they count. 0 is that it was read. Else `manifest` stays: `NO_MEMORY`, or the cause for which the text is
-/// refused, from `MANIFEST_TOML` to `MANIFEST_VERSION`, as `gorseplumb_boot` tells them.
+/// Reads a manifest's text into numbers that give what the text describes. Returns `OK` if the text was read. The
+/// places after the endpoints and the regions that are counted are zeros then. Otherwise returns `NO_MEMORY`, or the
+/// cause for which `gorseplumb_boot` rejects the text, from `MANIFEST_TOML` to `MANIFEST_VERSION`. Then `manifest`
+/// stays as it was.
 #[unsafe(no_mangle)]
 pub extern "C" fn gorseplumb_read_manifest(
     alloc: Global,
@@ -51,7 +52,7 @@ fn numbers_of(manifest: &Manifest) -> CManifest
     }
 }
 
-// The endpoints from an array's front on, and behind them zeros.
+// The endpoints from an array's front on, and zeros after them.
 fn endpoint_places(endpoints: &[Endpoint]) -> [CEndpoint; MOST_ENDPOINTS]
     requires { length endpoints.now ≤ MOST_ENDPOINTS }
     ensures { result ≡ padded MOST_ENDPOINTS no_endpoint (map endpoint_numbers endpoints.now) }
@@ -63,7 +64,7 @@ fn endpoint_places(endpoints: &[Endpoint]) -> [CEndpoint; MOST_ENDPOINTS]
     places
 }
 
-// The regions from an array's front on, and behind them zeros.
+// The regions from an array's front on, and zeros after them.
 fn region_places(regions: &[Region]) -> [CRegion; MOST_REGIONS]
     requires { length regions.now ≤ MOST_REGIONS }
     ensures { result ≡ padded MOST_REGIONS no_region (map region_numbers regions.now) }

@@ -18,55 +18,58 @@ use ffa_mend::Allowed;
 use ffa_model::{About, EndpointId, ErrorCode, FieldPlace, Flaw, Obstacle, Refusal, Status, Why};
 use ffa_playable::{Detail, Explanation, Standing};
 
-/// Why an operation is refused. What its tags don't name is zero.
+/// The reason why an operation is refused, as C sees it. A field that the tags do not name is zero.
 #[repr(C)]
 #[derive(Clone, Copy)]
 pub struct CReason {
-    /// The fault of an access, as one of `FAULT_TRANSLATION` to `FAULT_OUTSIDE_RAM`; 0 of a call.
+    /// The fault of an access, one of `FAULT_TRANSLATION` to `FAULT_OUTSIDE_RAM`; 0 for a call.
     pub fault: u32,
-    /// The check of a call that fails: its place among the variants of `Refusal`, counted from 1; 0 of an access.
+    /// The check of a call that fails: its place among the variants of `Refusal`, counted from 1; 0 for an access.
     pub check: u32,
-    /// The error code of a call; 0 of an access.
+    /// The error code of a call, as a signed number; 0 for an access.
     pub error: i32,
-    /// What a call's check is about, as one of `ABOUT_NOTHING` to `ABOUT_FIELD`.
+    /// The subject of a call's check, one of `ABOUT_NOTHING` to `ABOUT_FIELD`.
     pub about: u32,
-    /// What stands in the way of an access or at a page, as one of `OBSTACLE_NONE` to `OBSTACLE_IN_TRANSACTION`.
+    /// The obstacle to an access or at a page, one of `OBSTACLE_NONE` to `OBSTACLE_IN_TRANSACTION`.
     pub obstacle: u32,
-    /// With `ABOUT_PAGE`: the page.
+    /// The page, with `ABOUT_PAGE`.
     pub page: u32,
-    /// With `ABOUT_ENDPOINT`: the endpoint.
+    /// The identifier of the endpoint, with `ABOUT_ENDPOINT`.
     pub endpoint: u32,
-    /// With `OBSTACLE_OWNED_BY`: the owner.
+    /// The identifier of the owner, with `OBSTACLE_OWNED_BY`.
     pub owner: u32,
-    /// With `ABOUT_REGISTER` and `ABOUT_BIT`: which.
+    /// The number of the register or of the bit, with `ABOUT_REGISTER` or `ABOUT_BIT`.
     pub number: u32,
-    /// With `ABOUT_FIELD`: the condition that is broken, counted through from 1.
+    /// The number of the condition that is broken, with `ABOUT_FIELD`. The conditions of all parts are counted from 1.
     pub flaw: u32,
-    /// With `ABOUT_FIELD`: which access descriptor or which range, if the field is of one.
+    /// The index of the access descriptor or of the range that has the field, with `ABOUT_FIELD`; 0 for another field.
     pub index: u32,
-    /// Whether `value` is told: 1 with `ABOUT_REGISTER`, and with `ABOUT_FIELD` where the field's number is.
+    /// 1 if `value` has a number: with `ABOUT_REGISTER`, and with `ABOUT_FIELD` if the reason has the field's number.
+    /// Otherwise 0.
     pub has_value: u32,
-    /// The run state of `endpoint`, which is to wait, as one of `STATE_NONE` to `STATE_RUNS_ELSEWHERE`.
+    /// The run state of `endpoint`, which must wait, one of `STATE_NONE` to `STATE_RUNS_ELSEWHERE`.
     pub state: u32,
-    /// With `STATE_BLOCKED`: the endpoint whose answer to a direct request that one awaits; 0 where it awaits none.
+    /// The endpoint whose response to a direct request `endpoint` awaits, with `STATE_BLOCKED`; 0 if it awaits no
+    /// response.
     pub awaits: u32,
-    /// With `ABOUT_HANDLE`: the handle.
+    /// The handle, with `ABOUT_HANDLE`.
     pub handle: u64,
-    /// With `OBSTACLE_IN_TRANSACTION`: the open transaction's handle.
+    /// The handle of the open transaction, with `OBSTACLE_IN_TRANSACTION`.
     pub transaction: u64,
-    /// With `has_value`: the number in the register or in the field.
+    /// The number in the register or in the field, if `has_value` is 1.
     pub value: u64,
-    /// With `ABOUT_FIELD`: the place of its first byte.
+    /// The offset of the field's first byte, with `ABOUT_FIELD`.
     pub first: u64,
-    /// With `ABOUT_FIELD`: how many bytes it has.
+    /// The number of bytes of the field, with `ABOUT_FIELD`.
     pub size: u64,
-    /// Where `step` isn't 0: the least value that may be in the register or in the field instead.
+    /// The least number that the register or the field may have instead, if `step` is not 0.
     pub least: u64,
-    /// The greatest.
+    /// The greatest number that the register or the field may have instead, if `step` is not 0.
     pub most: u64,
-    /// How far each such value is from the next; 0 where none are told.
+    /// The distance from one number that is allowed to the next; 0 if the reason does not say which numbers are
+    /// allowed.
     pub step: u64,
-    /// What to change.
+    /// The hint what to change.
     pub hint: CHint,
 }
 
@@ -101,7 +104,7 @@ impl CReason {
         }
     }
 
-    /// A reason for C.
+    /// Returns this reason in the form for C.
     pub fn of(explanation: &Explanation) -> CReason
         ensures { result ≡ reason_told explanation.now.why explanation.now.detail }
     {
@@ -121,7 +124,7 @@ impl CReason {
         reason
     }
 
-    /// Takes a reason on, if there is one, and says whether there is.
+    /// Writes a reason here, if there is a reason. Returns whether there is a reason.
     pub fn fill(&mut self, explanation: Option<Explanation>) -> bool
         ensures there { result ≡ is_some explanation }
         ensures told { IfSome explanation (λ its. self.new ≡ reason_told its.why its.detail) }
@@ -136,7 +139,7 @@ impl CReason {
         }
     }
 
-    // What the check is about.
+    // Writes the subject of the check.
     fn tell_about(&mut self, about: Option<About>)
         ensures { self.new ≡ about_told about self.old }
     {
@@ -172,7 +175,7 @@ impl CReason {
         }
     }
 
-    // What stands in the way.
+    // Writes the obstacle.
     fn tell_obstacle(&mut self, obstacle: Option<Obstacle>)
         ensures { self.new ≡ obstacle_told obstacle self.old }
     {
@@ -191,7 +194,7 @@ impl CReason {
         }
     }
 
-    // How that stands which the check is about, or which values may be there, or what to change.
+    // Writes the run state of the subject, or the numbers that are allowed, or the hint.
     fn tell_detail(&mut self, detail: Option<Detail>)
         ensures { self.new ≡ detail_told detail self.old }
     {
@@ -210,7 +213,7 @@ impl CReason {
         }
     }
 
-    // Whose answer the endpoint awaits.
+    // Writes the endpoint whose response the endpoint awaits.
     fn tell_awaited(&mut self, awaits: Option<EndpointId>)
         ensures { self.new ≡ awaited_told awaits self.old }
     {
@@ -219,7 +222,7 @@ impl CReason {
         }
     }
 
-    // The condition that is broken, and where the field stands.
+    // Writes the condition that is broken, and where the field is.
     fn tell_field(&mut self, flaw: Flaw, place: FieldPlace)
         ensures { self.new ≡ field_told flaw place self.old }
     {
@@ -229,7 +232,7 @@ impl CReason {
         self.size = place.size;
     }
 
-    // A number, if it is told.
+    // Writes a number, if there is a number.
     fn tell_value(&mut self, value: Option<u64>)
         ensures { self.new ≡ value_told value self.old }
     {
@@ -247,7 +250,7 @@ fn number_of(refusal: Refusal) -> u32
     u32::from(refusal as u8) + 1
 }
 
-// FF-A's number of a code (DEN0077A, 11.2).
+// FF-A's number of an error code (DEN0077A, 11.2).
 fn error_code(code: ErrorCode) -> i32
     ensures { result ≡ cast_signed w32 (code_number code) }
 {

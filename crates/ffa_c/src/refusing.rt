@@ -1,5 +1,5 @@
 // SPDX-License-Identifier: MIT OR Apache-2.0
-//! Why and where a manifest is refused, for C.
+//! Why the library rejects a manifest, and where, for C.
 ghost use Rattle.std.specs.Prelude.{◌≡◌, ◌≢◌, ◌⊎◌, ◌≤◌, IfSome, length};
 ghost use Rattle.ffa_model.specs.declared.limits.TheConstants.{MOST_ENDPOINTS, MOST_REGIONS};
 ghost use Rattle.ffa_c.specs.Booting.{cause_number};
@@ -15,27 +15,28 @@ use ffa_manifest::{ManifestError, ManifestRefusal, PartsPlace, TextPlace, place_
 use ffa_model::{EndpointId, Ffa, MOST_ENDPOINTS, MOST_REGIONS, PageNo};
 use std::alloc::Global;
 
-/// Why a manifest is refused, and where.
+/// Why the library rejects a manifest, and where, as C sees it.
 #[repr(C)]
 #[derive(Clone, Copy)]
 pub struct CRefusal {
     /// The cause, from `MANIFEST_TOML` to `MANIFEST_VERSION`, or `MANIFEST_TABLES_OUTSIDE`.
     pub cause: u32,
-    /// The identifier of the endpoint that is refused, or `NOTHING` where that is something else.
+    /// The identifier of the endpoint at fault, or `NOTHING` if the fault is elsewhere.
     pub endpoint: u32,
-    /// The endpoint's region, counted from 1, or 0 where that isn't refused.
+    /// The endpoint's region at fault, counted from 1, or 0 if the fault is not in a region.
     pub region: u64,
-    /// The line of a text that is no UTF-8 or no TOML, counted from 1; else 0.
+    /// The line where a text ceases to be UTF-8 or TOML, counted from 1. 0 for another cause.
     pub line: u64,
-    /// The character in that line, counted from 1; else 0.
+    /// The character in this line, counted from 1. 0 for another cause.
     pub column: u64,
-    /// How many bytes the words have that say it, of a text, without a NUL; 0 of numbers.
+    /// The number of bytes of the words for a text, without the NUL; 0 for numbers.
     pub words: u64,
 }
 
-/// Why a manifest's text is refused, and where, and in words: what the program says of it with `--verbose`. 0 is that it
-/// describes a machine, and then nothing is written. Else `NO_MEMORY`, or the cause, with `refusal` and as much of
-/// the words as there is room for, with a NUL after it. The rest of `words` stays.
+/// Explains why a boot rejects a manifest's text: where, and in the words of the program with `--verbose`. Returns `OK`
+/// if the text describes a machine, or `NO_MEMORY`, and writes nothing then. Otherwise returns the cause, writes cause
+/// and place to `refusal`, and writes the words to `words`, with a NUL after them. If there is too little room, it
+/// writes only the first bytes of the words, and the NUL last. The rest of `words` stays as it was.
 #[unsafe(no_mangle)]
 pub extern "C" fn gorseplumb_why_text(
     alloc: Global,
@@ -55,7 +56,7 @@ pub extern "C" fn gorseplumb_why_text(
     }
 }
 
-// Tells why and where a text is refused, where there is memory for the words.
+// Writes why and where the library rejects a text, if there is memory for the words.
 fn tell_text(
     alloc: Global,
     text: &[u8],
@@ -83,8 +84,8 @@ fn tell_text(
     cause
 }
 
-/// Why a manifest that is given as numbers is refused, and where. 0 is that it gives a machine, and then `refusal` stays.
-/// Else the cause. It takes no memory.
+/// Explains why a boot rejects a manifest as numbers, and where. Returns `OK` if the numbers describe a machine, and
+/// `refusal` stays as it was. Otherwise returns the cause, and writes cause and place to `refusal`. It takes no memory.
 #[unsafe(no_mangle)]
 pub extern "C" fn gorseplumb_why_manifest(given: &CManifest, refusal: &mut CRefusal) -> u32
     ensures cause { result ≡ given_cause given.now }
@@ -102,7 +103,7 @@ pub extern "C" fn gorseplumb_why_manifest(given: &CManifest, refusal: &mut CRefu
 }
 
 impl CRefusal {
-    // For this cause, at an endpoint and one of its regions, or at none.
+    // The refusal for this cause, at an endpoint and one of its regions, or at no endpoint.
     fn at(cause: ManifestError, endpoint: Option<EndpointId>, region: Option<usize>) -> CRefusal
         ensures { result ≡ record {
           cause = cause_number cause;
@@ -130,7 +131,7 @@ impl CRefusal {
     }
 }
 
-// What is told of a text, with so many words.
+// The refusal of a text, with this number of bytes of words.
 fn told_of_text(text: &[u8], its: &ManifestRefusal, words: usize) -> CRefusal
     requires { IfSome its.now.byte (λ at. at ≤ length text.now) }
     ensures told { IsToldOf text.now its.now result }
@@ -146,7 +147,7 @@ fn told_of_text(text: &[u8], its: &ManifestRefusal, words: usize) -> CRefusal
     told
 }
 
-// Copies a text to the front of an array, as far as it has room for it and a NUL after it.
+// Copies a text to the front of an array, as far as the array has room for it and for a NUL after it.
 fn put_words(words: &mut [u8], said: &[u8])
     ensures { words.new ≡ told_in words.old said.now }
 {
@@ -158,7 +159,7 @@ fn put_words(words: &mut [u8], said: &[u8])
     words[size] = 0;
 }
 
-// Where numbers are refused.
+// The place where the library rejects numbers.
 fn place_of_numbers(given: &CManifest) -> PartsPlace
     ensures { result ≡ given_place given.now }
 {
@@ -177,7 +178,7 @@ fn place_of_numbers(given: &CManifest) -> PartsPlace
     )
 }
 
-// Where numbers tell no endpoints.
+// The place where numbers do not give endpoints.
 fn untold_place(given: &CManifest) -> PartsPlace
     ensures { result ≡ untold_place given.now }
 {
@@ -204,7 +205,7 @@ fn untold_among(endpoints: &[CEndpoint]) -> PartsPlace
     PartsPlace::nowhere()
 }
 
-// In which region an endpoint is refused that tells none.
+// The region at fault in an endpoint whose numbers do not give an endpoint, if the fault is in a region.
 fn untold_region(given: &CEndpoint) -> Option<usize>
     ensures { result ≡ untold_region given.now }
 {

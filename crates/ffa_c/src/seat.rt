@@ -1,5 +1,5 @@
 // SPDX-License-Identifier: MIT OR Apache-2.0
-//! A board's place in memory.
+//! The place of a board in memory.
 ghost use Rattle.std.specs.Prelude.{◌≡◌, ◌<◌, true, Option, Some, None, IsSome, IfOk, length};
 ghost use Rattle.std.specs.Option.{option_map};
 ghost use Rattle.std.specs.Coded.{coded_option};
@@ -18,8 +18,8 @@ use ffa_spmc::{Given, Storage};
 use std::alloc::{AllocError, Global};
 use std::marker::Model;
 
-/// Memory for a board, with one in it or none, so that it can be there before the board is and after it. Contracts see
-/// the board, if there is one.
+/// Memory for a board, with or without a board in it. The memory can be there before the board and after it. Contracts
+/// see the board, if there is a board.
 #[derive(Drop)]
 pub struct Seat {
     board: Option<Board>,
@@ -34,7 +34,7 @@ impl Model for Seat {
 }
 
 impl Seat {
-    /// One in which there is no board, if there is memory for it.
+    /// Makes a seat without a board, if there is memory for it.
     pub fn empty(alloc: Global) -> Result<Box<Seat>, AllocError>
         ensures { IfOk result (λ b. b.value ≡ None) }
     {
@@ -44,15 +44,15 @@ impl Seat {
         }
     }
 
-    /// Puts a board there.
+    /// Puts a board into the seat.
     pub fn fill(&mut self, board: Board)
         ensures { self.new ≡ Some board }
     {
         self.board = Some(board);
     }
 
-    /// Ends the machine that is there, in RAM that is lent: the pages with the bytes that they had in the end, and the
-    /// room for another machine in them.
+    /// Ends the machine in the seat, whose RAM is lent. Returns the pages, with the bytes that they had in the end, and
+    /// the room for another machine in them. The seat is empty then.
     pub fn vacate(&mut self) -> (Frames, Storage<Given<Global>>)
         requires { lends self.old ≡ Some true }
         ensures pages { Some result.0.pages ≡ ram_pages self.old }
@@ -64,7 +64,7 @@ impl Seat {
         self.board.take().unwrap().into_frames()
     }
 
-    /// The board that is there.
+    /// Borrows the board in the seat.
     pub fn board(&self) -> &Board
         requires { IsSome self.now }
         ensures { self.now ≡ Some result.now }
@@ -72,7 +72,7 @@ impl Seat {
         self.board.as_ref().unwrap()
     }
 
-    /// Does one operation of whoever runs on the selected processor. The outcome is filled in where it stands.
+    /// Does one operation of the runner of the selected processor, and writes the outcome in place.
     #[inline]
     pub fn op(&mut self, op: &Op, outcome: &mut COutcome)
         requires { IsSome self.old }
@@ -85,7 +85,7 @@ impl Seat {
         board.op(op, outcome)
     }
 
-    /// Selects a processor.
+    /// Selects a processor. From then on, operations are of the runner there.
     pub fn select(&mut self, processor: usize)
         requires there { IsSome self.old }
         requires processor { processor < MOST_PROCESSORS }
@@ -98,7 +98,7 @@ impl Seat {
         board.select(processor)
     }
 
-    /// An interrupt that the selected processor takes.
+    /// Does what an interrupt does that the selected processor takes.
     pub fn interrupt(&mut self) -> COutcome
         requires { IsSome self.old }
         ensures done { Interrupted self.old self.new result }
@@ -110,7 +110,8 @@ impl Seat {
         board.interrupt()
     }
 
-    /// Whose access to which pages the last call on memory that was done has changed: told once.
+    /// Returns the report on the last successful call on memory, and clears it: whose access has changed, and to which
+    /// pages.
     pub fn take_change(&mut self) -> Option<Changed>
         requires { IsSome self.old }
         ensures told { result ≡ told_by self.old }

@@ -1,5 +1,5 @@
 // SPDX-License-Identifier: MIT OR Apache-2.0
-//! Pages side by side that C lends at once.
+//! Adjacent pages that C lends at once.
 ghost use Rattle.std.specs.Prelude.{◌≡◌, ◌≢◌, ◌≤◌, Some, length};
 ghost use Rattle.ffa_lent.specs.Places.{places_in};
 ghost use Rattle.ffa_c.specs.Lending.{pages_of, places_of, ready_for, room_of};
@@ -11,8 +11,9 @@ use crate::lent_list::LentList;
 use ffa_lent::Span;
 use std::mem;
 
-/// Moves the pages of a span to the end of the list, in order. 0 is that all were moved. Else nothing has changed:
-/// `NO_LIST`, `NO_PAGE`, where the span has none, or `NO_MEMORY`, where the list has no room for all of them.
+/// Moves the pages of a span to the end of the list, in order, and leaves the span empty. Returns `OK` if all pages
+/// have moved. Otherwise returns `NO_LIST` if there is no list, `NO_PAGE` if the span has no pages, or `NO_MEMORY` if
+/// the list has no room for all of them. Then nothing has changed.
 #[unsafe(no_mangle)]
 pub extern "C" fn gorseplumb_lend_span(lent: &mut CLent, span: &mut Span) -> u32
     ensures answer { result ≢ NO_MEMORY → result ≡ span_answer (pages_of lent.old.held.value) span.old.strip.pages }

@@ -1,6 +1,6 @@
 // SPDX-License-Identifier: MIT OR Apache-2.0
-//! Why an operation of the runner would be refused now, or was refused just before, for C: a refused operation has
-//! changed nothing.
+//! Why an operation of the runner would be refused now, or was refused just before, for C. A refused operation has
+//! changed nothing, so both have the same reason.
 ghost use Rattle.std.specs.Prelude.{◌≡◌, IfSome, Some, false, is_some};
 ghost use Rattle.ffa_c.specs.Why.{is_refused, reason_held, sized, why_held};
 
@@ -9,8 +9,9 @@ use crate::machine::CMachine;
 use crate::reason::CReason;
 use ffa_model::Op;
 
-/// Why a call would be refused: true, and `reason` says it; or false, and it stays, where the call would be done, or
-/// there is no machine.
+/// Explains why a call of the runner would be refused now, or was refused just before. Returns true, and writes the
+/// reason to `reason`. Returns false if the call would be done, or if there is no machine. Then `reason` stays as it
+/// was. The machine stays as it was.
 #[unsafe(no_mangle)]
 pub extern "C" fn gorseplumb_why_call(
     machine: &mut CMachine,
@@ -27,7 +28,9 @@ pub extern "C" fn gorseplumb_why_call(
     tell(machine, Some(Op::Call(registers.x)), reason)
 }
 
-/// The same of a load of 1, 2, 4 or 8 bytes; false, too, where the size is none of these.
+/// Explains why a load of 1, 2, 4 or 8 bytes by the runner would be refused now, or was refused just before. Returns
+/// true, and writes the reason to `reason`. Returns false if the load would be done, if it has another size, or if
+/// there is no machine. Then `reason` stays as it was. The machine stays as it was.
 #[unsafe(no_mangle)]
 pub extern "C" fn gorseplumb_why_load(
     machine: &mut CMachine,
@@ -45,7 +48,9 @@ pub extern "C" fn gorseplumb_why_load(
     tell(machine, load_of(addr, size), reason)
 }
 
-/// The same of a store, whatever value it has.
+/// Explains why a store of 1, 2, 4 or 8 bytes by the runner would be refused now, or was refused just before. The value
+/// of the store does not matter. Returns true, and writes the reason to `reason`. Returns false if the store would be
+/// done, if it has another size, or if there is no machine. Then `reason` stays as it was. The machine stays as it was.
 #[unsafe(no_mangle)]
 pub extern "C" fn gorseplumb_why_store(
     machine: &mut CMachine,
@@ -63,7 +68,9 @@ pub extern "C" fn gorseplumb_why_store(
     tell(machine, store_of(addr, size), reason)
 }
 
-/// The same of a fetch of one instruction.
+/// Explains why a fetch of one instruction by the runner would be refused now, or was refused just before. Returns
+/// true, and writes the reason to `reason`. Returns false if the fetch would be done, or if there is no machine. Then
+/// `reason` stays as it was. The machine stays as it was.
 #[unsafe(no_mangle)]
 pub extern "C" fn gorseplumb_why_fetch(
     machine: &mut CMachine,
@@ -80,7 +87,7 @@ pub extern "C" fn gorseplumb_why_fetch(
     tell(machine, Some(Op::Fetch { addr }), reason)
 }
 
-// A load, if so many bytes are a size.
+// A load, if there is a size of this number of bytes.
 fn load_of(addr: u64, size: u32) -> Option<Op>
     ensures { result ≡ sized size (λ s. Op.Load addr s) }
 {
@@ -90,7 +97,7 @@ fn load_of(addr: u64, size: u32) -> Option<Op>
     }
 }
 
-// A store, if so many bytes are a size. Its value is nothing that a reason asks for.
+// A store, if there is a size of this number of bytes. No reason needs its value.
 fn store_of(addr: u64, size: u32) -> Option<Op>
     ensures { result ≡ sized size (λ s. Op.Store addr s 0) }
 {
@@ -104,7 +111,7 @@ fn store_of(addr: u64, size: u32) -> Option<Op>
     }
 }
 
-// Why an operation would be refused, if it would be.
+// Writes why an operation would be refused, if it would be refused.
 fn tell(machine: &mut CMachine, op: Option<Op>, reason: &mut CReason) -> bool
     ensures same { machine.new.held.value ≡ machine.old.held.value }
     ensures refused { result ≡ is_refused machine.old.held.value op }

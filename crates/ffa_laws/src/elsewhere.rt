@@ -1,5 +1,5 @@
 // SPDX-License-Identifier: MIT OR Apache-2.0
-//! One operation of any endpoint: the laws of a step hold of it, whoever runs.
+//! The laws of one operation of any endpoint, whichever endpoint runs. They are the laws of a step.
 
 ghost use Rattle.std.specs.Prelude.{ℕ, ◌≡◌, ◌+◌, ◌*◌, ◌<◌, true, List, length};
 ghost use Rattle.ffa_model.specs.declared.operation.Op.{Op};
@@ -19,9 +19,10 @@ ghost use Rattle.ffa_laws.specs.Steady.{IsSteady};
 ghost use Rattle.ffa_laws.specs.Stores.{AreWritten, all_stores, stores, with_bytes_of};
 ghost use Rattle.ffa_laws.specs.Writers.{OnlyWriters};
 
-/// One operation of any endpoint: the runner's is a step. Another endpoint's view changes by the events that the operation
-/// tells it, and the outcome and the own view afterwards depend on the own view alone. Rights don't grow, and a state that
-/// is steady or sound stays so.
+/// Proves the laws of one operation of any endpoint of the machine, in a steady state. If the endpoint is the runner,
+/// the operation is a step. The operation changes another endpoint's view exactly as its events for that endpoint say.
+/// Its outcome, and the view of its own endpoint afterwards, depend only on this endpoint's view before. No right
+/// grows, and a steady or sound state remains steady or sound.
 pub fn one_step_as()
     ensures runner { (s : State) (op : Op) → step_as s s.runner op ≡ step s op }
     ensures step { (s : State) (e : ℕ) (op : Op) → IsSteady s → is_known s e ≡ true → OneStep (by e op) s }
@@ -32,36 +33,44 @@ pub fn one_step_as()
     ensures sound { (s : State) (e : ℕ) (op : Op) → IsSoundState s → IsSoundState (step_as s e op).state }
 {}
 
-/// A page that its owner has alone keeps its bytes while another endpoint acts, but for the runner's message into its RX.
+/// Proves integrity for an operation of any endpoint, in a steady state. The operation does not change the bytes of a
+/// page that is in no open transaction and whose owner is another endpoint. The exception is a message of the runner
+/// into the owner's RX.
 pub fn integrity_as()
     ensures { (s : State) (e : ℕ) (op : Op) → IsSteady s → is_known s e ≡ true → Integrity (by e op) s }
 {}
 
-/// The bytes of a page change only where who acts may write to it before, or by what a call of the runner may write besides.
+/// Proves when an operation of any endpoint can change the bytes of a page, in a sound state. The endpoint may write to
+/// the page before the operation, or a call of the runner is one of two calls. FFA_MEM_RECLAIM can change the page if
+/// the runner may write to it afterwards. An indirect message can fill its receiver's RX.
 pub fn only_writers_as()
     ensures { (s : State) (e : ℕ) (op : Op) → IsSoundState s → OnlyWriters (by e op) s }
 {}
 
-/// In a state in which nobody is offered what it sent itself, only the runner's own calls change its access.
+/// Proves that an operation of any endpoint changes no access, except that a call of the runner can change the runner's
+/// access. The state is steady, and in it no endpoint is offered what it sent itself.
 pub fn own_access_as()
     ensures { (s : State) (e : ℕ) (op : Op) → IsSteady s → AreApart s → OwnAccess (by e op) s }
 {}
 
-/// In such a state what an endpoint sees of its operation, and what it can read afterwards, depend on what it can read before
-/// and on what the operation reveals; and what another can read changes by what it is told readably alone.
+/// Proves what determines the outcome of an operation of any endpoint, and what this endpoint can read afterwards: what
+/// it can read before, and what the operation reveals to it. For another endpoint, the readable part changes only by
+/// the events that it learns readably. The state is steady, and in it no endpoint is offered what it sent itself.
 pub fn confidential_as()
     ensures { (s : State) (e : ℕ) (op : Op) → IsSteady s → is_known s e ≡ true → AreApart s → Confidential (by e op) s }
 {}
 
-/// Each operation gives only the events of its row, only calls of the runner change the public part, and what is told is news
-/// to who is told it, or may repeat; it is about something in its view, and goes into it whole.
+/// Proves that an operation of any endpoint causes only the events of its row in `Silence`, and that only calls of the
+/// runner change the public part. The state is steady. Each event changes the view of the endpoint that learns it, or
+/// is of a kind that may repeat. In a sound state it is about something in that view. All that it says enters the view,
+/// except the registers of a message.
 pub fn silence_as()
     ensures { (s : State) (e : ℕ) (op : Op) → IsSteady s → Silence op (by e op) s }
 {}
 
-/// A list of operations, each of an endpoint of the machine: what an endpoint sees of it, and its view after it, depend on its
-/// view at the start, on its own operations and on the events towards it. Rights never grow, and a state that is steady or
-/// sound stays so.
+/// Proves the laws of a list of operations, each of an endpoint of the machine, from a steady state on. An endpoint's
+/// view at the start, its own operations and the events for it determine what it sees of the list, and its view
+/// afterwards. No right grows, and a steady or sound state remains steady or sound.
 pub fn whole_run_as()
     ensures isolated { (s : State) (ops : List (ℕ × Op)) → IsSteady s → are_known s ops ≡ true → IsolatedAs s ops }
     ensures never_grow { (s : State) (ops : List (ℕ × Op)) → IsSteady s → are_known s ops ≡ true
@@ -71,8 +80,9 @@ pub fn whole_run_as()
     ensures sound { (s : State) (ops : List (ℕ × Op)) → IsSoundState s → IsSoundState (state_after_as s ops) }
 {}
 
-/// Whatever bytes an endpoint's processors leave in a page to which it may write, the state is that which its stores leave, of
-/// a byte each: so what holds of lists of operations holds where others write between them.
+/// Proves that bytes that others write are stores, in a sound state. An endpoint's processors can leave any bytes in a
+/// page to which the endpoint may write. The state is then the one that the endpoint's stores leave, one store for each
+/// byte. So the laws of lists of operations also hold where others write between the operations.
 pub fn bytes_are_stores()
     ensures page { (s : State) (e p : ℕ) (bytes : List ℕ) → IsSoundState s → p < length s.pages
         → may_store (access s e p) ≡ true → length bytes ≡ 4096 → are_bytes bytes

@@ -1,5 +1,6 @@
 // SPDX-License-Identifier: MIT OR Apache-2.0
-//! Interrupts, and operations of several processors: who runs is public, and all else is as it is of a step.
+//! The laws of interrupts, and of operations of several processors. It is public which endpoints run. All else is as in
+//! the laws of a step.
 
 ghost use Rattle.std.specs.Prelude.{ℕ, ◌≡◌, ◌<◌, true, List, length, None};
 ghost use Rattle.ffa_model.specs.declared.endpoint.Endpoint.{Endpoint};
@@ -23,20 +24,23 @@ ghost use Rattle.ffa_laws.specs.Silence.{IsHeard, Silence};
 ghost use Rattle.ffa_laws.specs.Steady.{IsSteady};
 ghost use Rattle.ffa_laws.specs.Writers.{OnlyWriters};
 
-/// An interrupt: what others learn is in its events, and rights, tables and bytes stay. A sound state stays so.
+/// Proves that an interrupt changes each endpoint's view exactly as its events say, and changes no right and no byte in
+/// it. A sound state remains sound.
 pub fn one_interrupt()
     ensures interrupt { (s : State) → OneInterrupt s }
     ensures sound { (s : State) → IsSoundState s → IsSoundState (interrupt s).state }
 {}
 
-/// One operation where partitions may be preempted: the laws of a step hold of it.
+/// Proves that the laws of a step hold for one operation where interrupts may preempt partitions, in a steady state. A
+/// sound state remains sound.
 pub fn one_effect()
     ensures effect { (s : State) (op : Op) → IsSteady s → OneStep (resuming op) s }
     ensures never_grow { (s : State) (op : Op) → IsSteady s → NeverGrow s (step_resuming s op).state }
     ensures sound { (s : State) (op : Op) → IsSoundState s → IsSoundState (step_resuming s op).state }
 {}
 
-/// One operation of a processor: the laws of a step hold of it. A sound state stays so, and who runs where fits together.
+/// Proves that the laws of a step hold for one operation of a processor, in a steady state. A sound state remains
+/// sound, and the processors' runners still fit the state.
 pub fn one_operation()
     ensures operation { (processors : Processors) (p : ℕ) (s : State) (op : Op) → IsSteady s
         → HasRunner processors p s → OneStep (on_processor processors p op) s }
@@ -49,9 +53,10 @@ pub fn one_operation()
         → ArePlaced (turned processors p s) (step_on processors p s op).state }
 {}
 
-/// An operation of a processor does with bytes, access, what is told and what can be read, from the state before, what a step
-/// does; the laws of access and of what can be read are of states in which nobody is offered what it sent itself. And an
-/// interrupt changes what can be read by what it tells alone.
+/// Proves the laws of a step for an operation of a processor, seen from the state before: laws of bytes, of access, of
+/// events and of the readable part. The state is sound, and the processors' runners fit it. For the laws of access and
+/// of the readable part, no endpoint is offered what it sent itself. An interrupt changes the readable part of an
+/// endpoint only by the events that the endpoint learns readably.
 pub fn rights_on()
     ensures integrity { (processors : Processors) (p : ℕ) (s : State) (op : Op) → p < length processors.runners
         → ArePlaced processors s → IsSoundState s → Integrity (on_processor processors p op) s }
@@ -67,9 +72,10 @@ pub fn rights_on()
     ensures interrupt { (processors : Processors) (p : ℕ) (s : State) → ConfidentialInterrupt processors p s }
 {}
 
-/// Where no partition was preempted or runs elsewhere, sound run states are one chain from the normal world to the runner,
-/// through each blocked endpoint once. So it is at first, with zeros or other bytes, and each step keeps it so: where one
-/// processor does operations and takes no interrupt, there is always one chain. And an operation is a step then.
+/// Proves that sound run states are one chain if no partition is preempted or runs elsewhere. The chain goes from the
+/// normal world to the runner, and through each blocked endpoint once. No partition is preempted or runs elsewhere in
+/// the first state, with zeros or with other bytes, and each step keeps this so. It follows that there is always one
+/// chain if one processor does operations and takes no interrupt. In such a state an operation is a step.
 pub fn one_chain()
     ensures chain { (c : Schedule) → IsSound c → IsSimple c → IsOneChain c }
     ensures first { (ffa : Ffa) (base tables blocks : ℕ) (es : List Endpoint)
@@ -83,10 +89,10 @@ pub fn one_chain()
         → step_on processors processors.current s op ≡ step_resuming s op }
 {}
 
-/// A list of operations and interrupts of several processors, and of stores of endpoints meanwhile, whoever runs: what an endpoint
-/// sees of it, and its view after it, depend on its view at the start, on its own operations and on the events towards it.
-/// Rights never grow, a sound state stays so, and who runs where fits together. A list without such stores leads where the
-/// definitions say.
+/// Proves the laws of a list of operations and interrupts of several processors, and of stores of any endpoints between
+/// them. An endpoint's view at the start, its own operations and the events for it determine what it sees of the list,
+/// and its view afterwards. This holds from a steady state on. No right grows, a sound state remains sound, and the
+/// processors' runners still fit the state. A list without such stores leads to the state that the definitions say.
 pub fn whole_run_on()
     ensures isolated { (m : Shared) (xs : List Turn) → IsSteadyShared m → are_possible m xs ≡ true → IsolatedOn m xs }
     ensures steady { (m : Shared) → IsSoundShared m → IsSteadyShared m }

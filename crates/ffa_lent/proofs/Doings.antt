@@ -13,7 +13,7 @@ use Rattle.ffa_lent.specs.declared.ram.LentRam.{LentRam}
 
 pub noted :
     (m : LentRam) (new : Ram) (memory : Memory) {e : Event} {P : Step → Type 0} → memory ≡ with_event m.memory e
-    → before new e ≡ ram_of m → P (record { before = ram_of m; after = new; settled = e.settled; reading = e.reading })
+    → before new e ≡ ram_of m → P (record { before = ram_of m; after = new; settled = e.settled; reading = e.reading; words = e.words; loans = e.loans })
     → OneMore (Some (steps_of (ram_of m) m.memory.history.events)) (Some (steps_of new memory.history.events)) P
 noted m new memory {e} {P} is back its =
     subst (λ (x : Memory). OneMore (Some (steps_of (ram_of m) m.memory.history.events)) (Some (steps_of new x.history.events)) P) (sym is)
@@ -22,7 +22,7 @@ noted m new memory {e} {P} is back its =
 -- where RAM stays
 pub noted-beside :
     (m : LentRam) (memory : Memory) {e : Event} {P : Step → Type 0} → memory ≡ with_event m.memory e
-    → before (ram_of m) e ≡ ram_of m → P (record { before = ram_of m; after = ram_of m; settled = e.settled; reading = e.reading })
+    → before (ram_of m) e ≡ ram_of m → P (record { before = ram_of m; after = ram_of m; settled = e.settled; reading = e.reading; words = e.words; loans = e.loans })
     → One (past_of m) (past_of (record m { memory = memory })) P
 noted-beside m memory {e} {P} is back its =
     subst (λ (x : Memory). One (past_of m) (past_of (record m { memory = x })) P) (sym is)

@@ -42,20 +42,20 @@ module _ (m : LentRam) (i : ℕ) (inside : i < length (ram_of m).pages) where
       ∙ ap (λ c. cond c (get_or m.copies.items (i - m.first.0) []) (page_of (frame_ram m.memory.frames) i)) off
 
 -- what is lent to be written is that of the RAM with these bytes, whatever proves that this is RAM
-module _ (m : LentRam) (i : ℕ) (w : List ℕ) (room : vec_len m.copies ≡ MOST_BUFFER_PAGES) (held : m.count ≤ vec_len m.copies) where
+module _ (m : LentRam) (i : ℕ) (w : List ℕ) (words : ℕ) (room : vec_len m.copies ≡ MOST_BUFFER_PAGES) (held : m.count ≤ vec_len m.copies) where
   abbrev as_is : Bool → LentRam
   as_is c =
       let put : LentRam = cond c (record m { copies = with_item m.copies (i - m.first.0) w }) (record m { memory = with_frame_bytes m.memory i w }) in
-      record put { memory = with_event (record m.memory { frames = put.memory.frames }) (changed (ram_of m) i 1) }
+      record put { memory = with_event (record m.memory { frames = put.memory.frames }) (record (changed (ram_of m) i 1) { words = words }) }
 
-  pub with_copy-there : (memory : Memory) → memory ≡ with_event m.memory (changed (ram_of m) i 1) → is_observed m i ≡ true → (place : ℕ) → place ≡ i - m.first.0
-      → record { memory = memory; copies = with_item m.copies place w; first = m.first; count = m.count; room = room; held = held } ≡ written m i w
+  pub with_copy-there : (memory : Memory) → memory ≡ with_event m.memory (record (changed (ram_of m) i 1) { words = words }) → is_observed m i ≡ true → (place : ℕ) → place ≡ i - m.first.0
+      → record { memory = memory; copies = with_item m.copies place w; first = m.first; count = m.count; room = room; held = held } ≡ written m i w words
   with_copy-there memory noted at place same =
       (λ j. record { memory = noted j; copies = with_item m.copies (same j) w; first = m.first; count = m.count; room = ℕ_set _ _ room m.room j; held = le_prop held m.held j })
       ∙ sym (ap as_is at)
 
-  pub with_frame-there : (memory : Memory) → memory ≡ with_frame_bytes (with_event m.memory (changed (ram_of m) i 1)) i w → is_observed m i ≡ false
-      → record { memory = memory; copies = m.copies; first = m.first; count = m.count; room = room; held = held } ≡ written m i w
+  pub with_frame-there : (memory : Memory) → memory ≡ with_frame_bytes (with_event m.memory (record (changed (ram_of m) i 1) { words = words })) i w → is_observed m i ≡ false
+      → record { memory = memory; copies = m.copies; first = m.first; count = m.count; room = room; held = held } ≡ written m i w words
   with_frame-there memory noted off =
       (λ j. record { memory = noted j; copies = m.copies; first = m.first; count = m.count; room = ℕ_set _ _ room m.room j; held = le_prop held m.held j })
       ∙ sym (ap as_is off)

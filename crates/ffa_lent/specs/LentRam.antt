@@ -12,9 +12,11 @@ use Rattle.ffa_model.proofs.Runs.{in-run, to-run}
 use denote.RawPtr.{Ptr}
 use Rattle.ffa_physmem.specs.FrameRam.{frames_of, frames_of-with_frame, ram_of as frame_ram, ram_of-with_frame}
 use Rattle.ffa_physmem.specs.Moments.{Copies, IsInLoan, One, Only, Past, Site, Step, TurnsIn, AreInTurn, with_beneath}
+use Rattle.ffa_physmem.specs.Work.{Spends, loans_of, no_work, work_of}
 use Rattle.ffa_physmem.proofs.Moments.{Only-one, Only-then, beside-same, page-beside}
+use Rattle.ffa_physmem.proofs.Work.{one-spends, spends-then}
 use Rattle.ffa_lent.specs.Beneath.{beneath-seen, slice-kept, went-back}
-use Rattle.ffa_lent.specs.History.{changed, steps_of}
+use Rattle.ffa_lent.specs.History.{changed, lent, steps_of}
 use Rattle.ffa_lent.specs.Places.{place_of}
 use Rattle.ffa_lent.specs.Memory.{with_event, with_frame_bytes}
 use Rattle.ffa_lent.specs.Turns.{in-turn, one-more}
@@ -58,19 +60,19 @@ put_bytes m i bytes =
     then record m { copies = with_item m.copies (i - m.first.0) bytes }
     else record m { memory = with_frame_bytes m.memory i bytes }
 
--- the same, with the event that changes this page
-abbrev pub written : LentRam → ℕ → List ℕ → LentRam
-written m i bytes =
+-- the same, with the event that changes this page, which stores so many words
+abbrev pub written : LentRam → ℕ → List ℕ → ℕ → LentRam
+written m i bytes words =
     let put : LentRam = put_bytes m i bytes in
-    record put { memory = with_event (record m.memory { frames = put.memory.frames }) (changed (ram_of m) i 1) }
+    record put { memory = with_event (record m.memory { frames = put.memory.frames }) (record (changed (ram_of m) i 1) { words = words }) }
 
 -- a loan of a page begins with an event of its own
 abbrev pub begun : LentRam → ℕ → LentRam
-begun m i = record m { memory = with_event m.memory (changed (ram_of m) i 1) }
+begun m i = record m { memory = with_event m.memory (lent (ram_of m) i) }
 
 -- the same RAM after a loan that leaves these bytes in a page
 abbrev pub with_bytes : LentRam → ℕ → List ℕ → LentRam
-with_bytes m i bytes = written (begun m i) i bytes
+with_bytes m i bytes = written (begun m i) i bytes 0
 
 -- the steps so far, where pages lie, and which are observed
 abbrev pub past_of : LentRam → Past
@@ -153,8 +155,8 @@ module _ (m : LentRam) (i : ℕ) (bytes : List ℕ) where
       ∙ ap (λ c. set (map_at (bytes_seen m) frames.pages) i (cond c copy bytes)) off)
 
 pub ram_of-written :
-    (m : LentRam) (i : ℕ) (bytes : List ℕ) → ram_of (written m i bytes) ≡ with_page (ram_of m) i bytes
-ram_of-written m i bytes = elim (cases_Bool (is_observed m i)) [
+    (m : LentRam) (i : ℕ) (bytes : List ℕ) (words : ℕ) → ram_of (written m i bytes words) ≡ with_page (ram_of m) i bytes
+ram_of-written m i bytes words = elim (cases_Bool (is_observed m i)) [
   | inl at ↦ ap (λ c. ram_of (cond c (copied m i bytes) (framed m i bytes))) at ∙ ram_of-copied m i bytes at
   | inr off ↦ ap (λ c. ram_of (cond c (copied m i bytes) (framed m i bytes))) off ∙ ram_of-framed m i bytes off
 ]
@@ -166,8 +168,8 @@ pub memory-beneath : (m : LentRam) → frame_ram m.memory.frames ≡ with_beneat
 memory-beneath m = beneath-seen (frame_ram m.memory.frames) m.copies.items m.first.0 m.count
 
 -- no write changes the bytes beneath copies
-copies_of-written : (m : LentRam) (i : ℕ) (bytes : List ℕ) → copies_of (written m i bytes) ≡ copies_of m
-copies_of-written m i bytes = elim (cases_Bool (is_observed m i)) [
+copies_of-written : (m : LentRam) (i : ℕ) (bytes : List ℕ) (words : ℕ) → copies_of (written m i bytes words) ≡ copies_of m
+copies_of-written m i bytes words = elim (cases_Bool (is_observed m i)) [
   | inl at ↦ ap (λ c. copies_of (cond c (copied m i bytes) (framed m i bytes))) at
   | inr off ↦
       ap (λ c. copies_of (cond c (copied m i bytes) (framed m i bytes))) off
@@ -176,35 +178,45 @@ copies_of-written m i bytes = elim (cases_Bool (is_observed m i)) [
       (slice-kept (frame_ram m.memory.frames).pages m.first.0 m.count i bytes off)
 ]
 
-places_of-written : (m : LentRam) (i : ℕ) (bytes : List ℕ) → places_of (written m i bytes) ≡ places_of m
-places_of-written m i bytes = elim (cases_Bool (is_observed m i)) [
+places_of-written : (m : LentRam) (i : ℕ) (bytes : List ℕ) (words : ℕ) → places_of (written m i bytes words) ≡ places_of m
+places_of-written m i bytes words = elim (cases_Bool (is_observed m i)) [
   | inl at ↦ ap (λ c. places_of (cond c (copied m i bytes) (framed m i bytes))) at
   | inr off ↦
       ap (λ c. places_of (cond c (copied m i bytes) (framed m i bytes))) off
       ∙ frames_of-with_frame place_of m.memory.frames i bytes (λ b. refl)
 ]
 
-pub site_of-written : (m : LentRam) (i : ℕ) (bytes : List ℕ) → site_of (written m i bytes) ≡ site_of m
-site_of-written m i bytes = λ j. record { places = places_of-written m i bytes j; copies = copies_of-written m i bytes j }
+pub site_of-written : (m : LentRam) (i : ℕ) (bytes : List ℕ) (words : ℕ) → site_of (written m i bytes words) ≡ site_of m
+site_of-written m i bytes words = λ j. record { places = places_of-written m i bytes words j; copies = copies_of-written m i bytes words j }
 
 -- ---- its steps
 
 -- other bytes in a page are one step
 pub one-write :
-    (m : LentRam) (i : ℕ) (bytes : List ℕ) (P : Step → Type 0)
-    → P (record { before = ram_of m; after = with_page (ram_of m) i bytes; settled = None; reading = None })
-    → One (past_of m) (past_of (written m i bytes)) P
-one-write m i bytes P its =
-    let new = ram_of-written m i bytes in
+    (m : LentRam) (i : ℕ) (bytes : List ℕ) (words : ℕ) (P : Step → Type 0)
+    → P (record { before = ram_of m; after = with_page (ram_of m) i bytes; settled = None; reading = None; words = words; loans = 0 })
+    → One (past_of m) (past_of (written m i bytes words)) P
+one-write m i bytes words P its =
+    let new = ram_of-written m i bytes words in
     record {
-      each = one-more (ram_of m) (ram_of (written m i bytes)) (changed (ram_of m) i 1) m.memory.history.events P
-          (went-back (ram_of m) (ram_of (written m i bytes)) i 1 (page-beside (ram_of m) (ram_of (written m i bytes)) i bytes (is_in_run i 1) (to-run i 1 i (omega arith) (omega arith)) new))
-          (subst (λ (r : Ram). P (record { before = ram_of m; after = r; settled = None; reading = None })) (sym new) its);
-      site = site_of-written m i bytes;
+      each = one-more (ram_of m) (ram_of (written m i bytes words)) (record (changed (ram_of m) i 1) { words = words }) m.memory.history.events P
+          (went-back (ram_of m) (ram_of (written m i bytes words)) i 1 (page-beside (ram_of m) (ram_of (written m i bytes words)) i bytes (is_in_run i 1) (to-run i 1 i (omega arith) (omega arith)) new))
+          (subst (λ (r : Ram). P (record { before = ram_of m; after = r; settled = None; reading = None; words = words; loans = 0 })) (sym new) its);
+      site = site_of-written m i bytes words;
     }
 
 pub ram_of-with_bytes : (m : LentRam) (i : ℕ) (bytes : List ℕ) → ram_of (with_bytes m i bytes) ≡ with_page (ram_of m) i bytes
-ram_of-with_bytes m i bytes = ram_of-written (begun m i) i bytes
+ram_of-with_bytes m i bytes = ram_of-written (begun m i) i bytes 0
+
+-- a loan begins with a step
+begun-one :
+    (m : LentRam) (i : ℕ) (P : Step → Type 0)
+    → P (record { before = ram_of m; after = ram_of m; settled = None; reading = None; words = 0; loans = 1 }) → One (past_of m) (past_of (begun m i)) P
+begun-one m i P its = record {
+  each = one-more (ram_of m) (ram_of m) (lent (ram_of m) i) m.memory.history.events P
+      (went-back (ram_of m) (ram_of m) i 1 (beside-same (ram_of m) (is_in_run i 1))) its;
+  site = refl;
+}
 
 -- while a page is lent, nothing else changes
 pub in_loan :
@@ -213,15 +225,16 @@ in_loan m i bytes =
     let old : List ℕ = get_or (ram_of m).pages i [] in
     let same : ram_of m ≡ with_page (ram_of m) i old =
     ap (λ (p : List (List ℕ)). let r : Ram = record { base = (ram_of m).base; pages = p } in r) (sym (set-get_or (ram_of m).pages i [])) in
-    let begins : One (past_of m) (past_of (begun m i)) (IsInLoan (ram_of m) i) = record {
-      each = one-more (ram_of m) (ram_of m) (changed (ram_of m) i 1) m.memory.history.events (IsInLoan (ram_of m) i)
-          (went-back (ram_of m) (ram_of m) i 1 (beside-same (ram_of m) (is_in_run i 1)))
-          (record { from = old; to = old; before = same; after = same; none = refl; unread = refl });
-      site = refl;
-    } in
-    Only-then (Only-one begins)
-    (Only-one (one-write (begun m i) i bytes (IsInLoan (ram_of m) i) (record { from = old; to = bytes; before = same; after = refl; none = refl; unread = refl })))
+    Only-then (Only-one (begun-one m i (IsInLoan (ram_of m) i) (record { from = old; to = old; before = same; after = same; none = refl; unread = refl })))
+    (Only-one (one-write (begun m i) i bytes 0 (IsInLoan (ram_of m) i) (record { from = old; to = bytes; before = same; after = refl; none = refl; unread = refl })))
     (λ _ s its. its)
+
+-- and its first step counts it
+pub one_loan : (m : LentRam) (i : ℕ) (bytes : List ℕ) → Spends (past_of m) (past_of (with_bytes m i bytes)) (loans_of 1)
+one_loan m i bytes =
+    spends-then (loans_of 1) no_work (loans_of 1) refl
+    (one-spends (past_of m) (past_of (begun m i)) (loans_of 1) (begun-one m i (λ s. work_of s ≡ loans_of 1) refl).each (λ s its. its))
+    (one-spends (past_of (begun m i)) (past_of (with_bytes m i bytes)) no_work (one-write (begun m i) i bytes 0 (λ s. work_of s ≡ no_work) refl).each (λ s its. its))
 
 pub turns : (m : LentRam) → TurnsIn (ram_of m) (past_of m)
 turns m h there = subst (λ h. AreInTurn h (ram_of m)) (same_Some _ h there) (in-turn (ram_of m) m.memory.history.events)

@@ -19,3 +19,5 @@ pub record IsBarrier (ram : Ram) (s : Step) : Type 0 where
   pub after : s.after ≡ ram
   pub none : s.settled ≡ None
   pub unread : s.reading ≡ None
+  pub words : s.words ≡ 0
+  pub loans : s.loans ≡ 0

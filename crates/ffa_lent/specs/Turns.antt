@@ -20,12 +20,12 @@ in-turn ram (e ∷ earlier) = (
 -- what is done once is one step more, where it tells how to go back
 pub one-more :
     (old new : Ram) (e : Event) (earlier : List Event) (P : Step → Type 0) → before new e ≡ old
-    → P (record { before = old; after = new; settled = e.settled; reading = e.reading })
+    → P (record { before = old; after = new; settled = e.settled; reading = e.reading; words = e.words; loans = e.loans })
     → OneMore (Some (steps_of old earlier)) (Some (steps_of new (e ∷ earlier))) P
 one-more old new e earlier P back its h there = (
-  record { before = before new e; after = new; settled = e.settled; reading = e.reading },
+  record { before = before new e; after = new; settled = e.settled; reading = e.reading; words = e.words; loans = e.loans },
   steps_of (before new e) earlier,
   sym (same_Some _ h there),
   ap (λ (r : Ram). Some (steps_of r earlier)) (sym back),
-  subst (λ (r : Ram). P (record { before = r; after = new; settled = e.settled; reading = e.reading })) (sym back) its,
+  subst (λ (r : Ram). P (record { before = r; after = new; settled = e.settled; reading = e.reading; words = e.words; loans = e.loans })) (sym back) its,
 )

@@ -57,7 +57,11 @@ pub(crate) struct Doing<'a> {
 /// The kind of an event.
 #[derive(Clone, Copy, Drop)]
 pub(crate) enum What<'a> {
-    /// The library writes the pages.
+    /// The library stores one word.
+    Stored,
+    /// The library begins to write the bytes of a page.
+    Lent,
+    /// The library has written the pages, as its loan of them ends.
     Written,
     /// With `true`, the library reads the pages at once, and sees the bytes of this reading from now on. With `false`, the
     /// library sees memory again.

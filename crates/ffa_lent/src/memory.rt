@@ -68,13 +68,13 @@ impl Memory {
         put_word(self.frames.page_mut(page), index, value);
     }
 
-    // Lends the bytes of a frame for writing. The event is noted twice, so that no loan is one step as a store is.
-    pub(crate) fn lend(&mut self, page: PageNo, done: &Done) -> &mut [u8; 4096]
+    // Lends the bytes of a frame for writing. Two events are noted, so that no loan is one step as a store is.
+    pub(crate) fn lend(&mut self, page: PageNo, begun: &Done, done: &Done) -> &mut [u8; 4096]
         requires { page.0 < length (frame_ram self.old.frames).pages }
         ensures value { result.now ≡ page_of (frame_ram self.old.frames) page.0 }
-        ensures* writes_back { sem 𝓛 (Lends the_row (Array byte 0) self.entry result (with_frame_bytes (with_event (with_event self.old done.now.event) done.now.event) page.0)) }
+        ensures* writes_back { sem 𝓛 (Lends the_row (Array byte 0) self.entry result (with_frame_bytes (with_event (with_event self.old begun.now.event) done.now.event) page.0)) }
     {
-        self.note(done);
+        self.note(begun);
         self.note(done);
         self.frames.page_mut(page)
     }

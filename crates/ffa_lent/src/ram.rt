@@ -110,8 +110,9 @@ impl LentRam {
 }
 
 impl PhysMem for LentRam {
-    ghost use Rattle.ffa_lent.specs.LentRam.{in_loan, memory-beneath, memory_of, past_of, ram_of, ram_of-with_bytes, turns, with_bytes};
+    ghost use Rattle.ffa_lent.specs.LentRam.{in_loan, memory-beneath, memory_of, one_loan, past_of, ram_of, ram_of-with_bytes, turns, with_bytes};
     ghost use Rattle.ffa_lent.specs.Settling.{IsBarrier};
+    ghost use Rattle.ffa_physmem.specs.Work.{Spends, loans_of};
 
     ghost ram = { ram_of };
 
@@ -126,6 +127,8 @@ impl PhysMem for LentRam {
     ghost one_page = { ram_of-with_bytes };
 
     ghost in_loan = { in_loan };
+
+    ghost one_loan = { one_loan };
 
     ghost in_turn = { turns };
 
@@ -149,24 +152,29 @@ impl PhysMem for LentRam {
 
     // A write to an observed page changes only the copy, which `release` discards. As in `Memory::lend`, a loan is two events.
     fn page_mut(&mut self, page: PageNo) -> &mut [u8; 4096] {
+        let begun = self.doing(&Doing {
+            first: page,
+            count: 1,
+            what: What::Lent,
+        });
         let done = self.doing(&Doing {
             first: page,
             count: 1,
             what: What::Written,
         });
         if let Some(place) = self.place(page) {
-            self.memory.note(&done);
+            self.memory.note(&begun);
             self.memory.note(&done);
             return &mut self.copies[place];
         }
-        self.memory.lend(page, &done)
+        self.memory.lend(page, &begun, &done)
     }
 
     fn write_word(&mut self, page: PageNo, index: usize, value: u64) {
         let done = self.doing(&Doing {
             first: page,
             count: 1,
-            what: What::Written,
+            what: What::Stored,
         });
         if let Some(place) = self.place(page) {
             self.memory.note(&done);
@@ -181,6 +189,7 @@ impl PhysMem for LentRam {
         requires { page.0 < length (ram_of self.old).pages }
         ensures ram { ram_of self.new ≡ with_page (ram_of self.old) page.0 (replicate 4096 0) }
         ensures steps { Only (past_of self.old) (past_of self.new) (λ _ s. IsInLoan (ram_of self.old) page.0 s) }
+        ensures spent { Spends (past_of self.old) (past_of self.new) (loans_of 1) }
         ensures shown { let zeroed = with_bytes self.old page.0 (replicate 4096 0) in
             One (past_of zeroed) (past_of self.new) (λ s. IsBarrier (ram_of self.new) s) }
     {

@@ -16,6 +16,9 @@ use std::alloc::Global;
 use std::process::Abort;
 use std::test::Fail;
 
+// How many steps calls on memory take.
+mod bound;
+
 // Rows on machines with a cache, and what it holds.
 mod cached;
 

@@ -1,9 +1,9 @@
 // SPDX-License-Identifier: MIT OR Apache-2.0
-//! Control characters, of which TOML allows a tab and the ends of lines.
+//! Control characters that TOML does not allow. It allows a tab and the ends of lines.
 ghost use Rattle.std.specs.Prelude.{◌≡◌, ◌≤◌, length, drop};
 ghost use Rattle.ffa_manifest.specs.Controls.{forbidden_control};
 
-/// The control character at this place in a text, from 0, where TOML does not allow it.
+/// Returns the control character at this place in a text, counted from 0, if TOML does not allow it there.
 pub(crate) fn forbidden_control(text: &[u8], at: usize) -> Option<u8>
     requires { at ≤ length text.now }
     ensures { result ≡ forbidden_control (drop at text.now) }

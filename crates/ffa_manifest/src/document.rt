@@ -1,5 +1,6 @@
 // SPDX-License-Identifier: MIT OR Apache-2.0
-//! The top table of a manifest. Its tests stand once more over parts without a text, where it is said why (`of_parts`).
+//! The top table of a manifest. `of_parts` repeats its tests for parts without a text, and the file of `of_parts` says
+//! why.
 ghost use Rattle.std.specs.Prelude.{◌≤◌, ◌-◌, ◌^◌, IfOk, length};
 ghost use Rattle.ffa_model.specs.declared.limits.TheConstants.{MOST_BLOCKS, MOST_RAM};
 ghost use Rattle.toml.specs.View.{table_view, items_view};
@@ -59,7 +60,8 @@ pub(crate) fn endpoint_items(table: &Table) -> Result<&[Value], ManifestError>
     )
 }
 
-/// The machine of this version of FF-A that the top table of a manifest describes.
+/// Reads the manifest that the top table of a text describes, for a machine of this version of FF-A. Returns the first
+/// cause if it rejects the table.
 #[tactic(auto, using(crate::proofs::Views::item_count_view), unfolding(crate::specs::Document::machine))]
 pub(crate) fn machine(table: &Table, ffa: Ffa) -> Result<Manifest, ManifestError>
     ensures { Exact parts_of result (machine_in ffa (table_view table.now)) }

@@ -18,10 +18,10 @@ use bitflags::Flags;
 use ffa_model::{Endpoint, Ffa, MOST_ENDPOINTS, Properties, Version};
 use toml::{Table, Value};
 
-/// The keys of the first endpoint's table.
+/// The keys of the table of the first endpoint, which is the normal world.
 pub(crate) const NORMAL_WORLD_KEYS: [&str; 3] = ["version", "properties", "regions"];
 
-/// The keys of each other endpoint's table.
+/// The keys of the table of each partition.
 pub(crate) const PARTITION_KEYS: [&str; 4] = ["version", "uuid", "properties", "regions"];
 
 #[tactic(auto, unfolding(crate::specs::Endpoints::normal_world_keys))]
@@ -38,7 +38,7 @@ pub(crate) fn partition_keys(table: &Table) -> Result<(), ManifestError>
     only_keys(table, &PARTITION_KEYS)
 }
 
-// The version that a text names, where the machine serves this version of FF-A.
+// Returns the version that a text names. Only a machine of FF-A 1.2 allows version 1.2.
 #[tactic(auto, unfolding(crate::specs::Endpoints::version_of))]
 fn version_of(text: &str, ffa: Ffa) -> Result<Version, ManifestError>
     ensures { Exact (λ v. v) result (version_named ffa text.now) }
@@ -65,8 +65,8 @@ pub(crate) fn uuid_at(table: &Table) -> Result<[u8; 16], ManifestError>
     identifier(text_at(table, "uuid")?)
 }
 
-// Whether a partition that is built for this version may have the properties: bits 3:0, and in FF-A 1.2 also bits 9 and 10, of
-// second direct messages.
+// Whether a partition of this version may have these properties. It may have bits 3:0. In FF-A 1.2 it may also have
+// bits 9 and 10, which are about second direct messages.
 pub(crate) fn are_properties(version: Version, bits: u64) -> bool
     ensures { result ≡ are_properties version bits }
 {
@@ -88,7 +88,7 @@ pub(crate) fn properties_at(table: &Table, version: Version) -> Result<Propertie
     }
 }
 
-// Whether direct requests or notifications are to be received.
+// Whether an endpoint with these properties receives direct requests or notifications.
 #[tactic(auto, using(crate::proofs::Bits::contains_first, crate::proofs::Bits::contains_fourth))]
 pub(crate) fn receives(properties: Properties) -> bool
     ensures { result ≡ (is_set 0 properties.0 || is_set 3 properties.0) }
@@ -167,7 +167,7 @@ pub(crate) fn next_endpoint(
     }
 }
 
-/// The endpoints of the items of the array `endpoint`.
+/// Reads the endpoints from the items of the array `endpoint`. Returns the first cause if it rejects an item.
 #[tactic(auto, unfolding(crate::specs::Endpoints::endpoints_from))]
 pub(crate) fn endpoints_from(
     values: &[Value],

@@ -1,16 +1,16 @@
 // SPDX-License-Identifier: MIT OR Apache-2.0
-//! Where an error of TOML's parser begins.
+//! The byte at which an error of TOML's parser begins.
 ghost use Rattle.std.specs.Prelude.{◌≡◌};
 ghost use Rattle.toml.specs.Errors.{IsMemory, span_start};
 
-/// The byte of a text, from 0, where an error of TOML's parser begins. Only such an error makes one.
+/// The byte of a text at which an error of TOML's parser begins, counted from 0. Only such an error makes this value.
 #[derive(Clone, Copy, Debug, Drop)]
 pub struct ErrorStart {
     byte: usize,
 }
 
 impl ErrorStart {
-    /// Returns where this error begins.
+    /// Returns the start of this error of the parser.
     pub(crate) fn of(error: &toml::de::Error) -> ErrorStart
         requires { IsMemory error.now → ⊥ }
         ensures { result.byte ≡ span_start error.now }
@@ -21,7 +21,7 @@ impl ErrorStart {
         }
     }
 
-    /// Returns the byte, from 0.
+    /// Returns the byte, counted from 0.
     pub fn byte(self) -> usize
         ensures { result ≡ self.byte }
     {

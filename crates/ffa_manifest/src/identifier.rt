@@ -6,7 +6,7 @@ ghost use Rattle.ffa_manifest.specs.Endpoints.{identifier as identifier_of};
 use crate::error::ManifestError;
 use uuid::Uuid;
 
-/// The bytes of the UUID that a text writes, other than the Nil UUID.
+/// Reads the bytes of the UUID that a text writes. Rejects the Nil UUID, and a text that is not a UUID.
 #[tactic(auto, unfolding(crate::specs::Endpoints::identifier))]
 pub(crate) fn identifier(text: &str) -> Result<[u8; 16], ManifestError>
     ensures { Exact (λ bytes. bytes) result (identifier_of text.now) }

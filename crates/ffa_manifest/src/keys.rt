@@ -1,5 +1,5 @@
 // SPDX-License-Identifier: MIT OR Apache-2.0
-//! The keys of a table, and what stands at one.
+//! The keys of a table, and the values at its keys.
 ghost use Rattle.std.specs.Prelude.{◌≡◌, ◌≤◌, IfOk, map, length, string_bytes, bytes_eq};
 ghost use Rattle.std.specs.List.{list_all, list_any};
 ghost use Rattle.std.specs.BTreeMap.{keys};
@@ -22,7 +22,7 @@ fn are_among(table: &Table, names: &[&str]) -> bool
     table.keys().all(|key| is_among(key.as_str(), names))
 }
 
-/// Refuses a table that has a key other than these.
+/// Rejects a table that has a key other than these.
 #[tactic(auto, using(crate::proofs::Views::are_among_view), unfolding(crate::specs::Keys::only_keys))]
 pub(crate) fn only_keys(table: &Table, names: &[&str]) -> Result<(), ManifestError>
     ensures { Exact (λ u. u) result (only_keys_in (map (λ n. n.now) names.now) (table_view table.now)) }
@@ -43,7 +43,7 @@ fn value_at<'a>(table: &'a Table, key: &str) -> Result<&'a Value, ManifestError>
     }
 }
 
-/// The text of the string at a key.
+/// Returns the text of the string at a key. Returns an error if the key is missing, or if its value is not a string.
 #[tactic(auto, unfolding(crate::specs::Keys::text_at))]
 pub(crate) fn text_at<'a>(table: &'a Table, key: &str) -> Result<&'a str, ManifestError>
     ensures { Exact (λ t. t.now) result (text_in key.now (table_view table.now)) }
@@ -61,7 +61,8 @@ fn natural(number: i64) -> Option<u64>
     u64::try_from(number).ok()
 }
 
-/// The number that the integer at a key is, or `None` for one below 0.
+/// Returns the integer at a key, or `None` for an integer below 0. Returns an error if the key is missing, or if its
+/// value is not an integer.
 #[tactic(auto, unfolding(crate::specs::Keys::integer_at))]
 pub(crate) fn integer_at(table: &Table, key: &str) -> Result<Option<u64>, ManifestError>
     ensures { Exact (λ n. n) result (number_in key.now (table_view table.now)) }
@@ -72,7 +73,7 @@ pub(crate) fn integer_at(table: &Table, key: &str) -> Result<Option<u64>, Manife
     }
 }
 
-/// The items of the array at a key, or this cause where there is none or there are more than `most`.
+/// Returns the items of the array at a key. Returns this cause if the array has no items, or more than `most`.
 #[tactic(auto, using(crate::proofs::Views::item_count_view), unfolding(crate::specs::Keys::items_at))]
 pub(crate) fn items_at<'a>(
     table: &'a Table,

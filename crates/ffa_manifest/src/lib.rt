@@ -35,7 +35,8 @@ pub use refusal::{Found, ManifestRefusal};
 use std::alloc::{AllocError, Global};
 pub use text_place::TextPlace;
 
-/// Reads the text of a manifest for a machine of FF-A 1.1, as `read_for` does.
+/// Reads the text of a manifest for a machine of FF-A 1.1, as `read_for` does. Returns the first cause if it rejects
+/// the text.
 pub fn read(alloc: Global, text: &str) -> Result<Manifest, ManifestError>
     ensures accepted { IfOk result (λ m. machine_of V1_1 text.now ≡ Ok (parts_of m)) }
     ensures refused { IfErr result (λ e. e ≢ ManifestError.NoMemory → machine_of V1_1 text.now ≡ Err e) }
@@ -46,8 +47,9 @@ pub fn read(alloc: Global, text: &str) -> Result<Manifest, ManifestError>
 /// Reads the text of a manifest for a machine of this version of FF-A: the machine's RAM, and its endpoints with their
 /// regions. The version decides which `version` an endpoint may have.
 ///
-/// A text is refused by the first cause in the order of reading: a table's unknown keys, and then its keys in their
-/// order, each for its presence, its kind and its value.
+/// A rejected text has the first cause in the order of reading. In a table, first come unknown keys, and then the
+/// table's keys in their order. Each key is tested for its presence, its kind and its value. `NoMemory` can come at any
+/// time, and says nothing of the text.
 // It uses the heap, because `toml` takes no other allocator. So `tests/refused-memory` refuses each allocation of the
 // built program. RAM, the player and the commands take any allocator, so tests in Rattle refuse theirs.
 #[tactic(auto, unfolding(crate::specs::Document::machine_of))]
@@ -62,16 +64,17 @@ pub fn read_for(alloc: Global, text: &str, ffa: Ffa) -> Result<Manifest, Manifes
     }
 }
 
-/// Reads the bytes of a text as `read_for` does, and of those that are refused finds where.
+/// Reads the bytes of a manifest's text as `read_for` does, and finds the place where it rejects a text.
 ///
-/// The cause is the one that `read_for` answers; bytes that are no UTF-8 are no TOML. The place is where reading ends: the
-/// endpoint and the region before which all is read, and which is refused. With it come the key and the value that stand
-/// there, which tests show, or the region that another one meets, which does have a page of it. Of what is no TOML the byte
-/// is told where the parser's error begins.
+/// The cause is the one that `read_for` returns. Bytes that are not UTF-8 are not TOML. The place is where reading
+/// ends: the endpoint and the region that are rejected, after all before them were read. With the place come the key
+/// and the value there, which no clause promises and tests show. If another region overlaps the rejected one, that
+/// region comes instead, and it does have a page of the rejected one. If the text is not TOML, the byte is where the
+/// parser's error begins.
 ///
 /// # Errors
 ///
-/// There is no memory.
+/// The allocator refused memory.
 pub fn explain(
     alloc: Global,
     bytes: &[u8],
@@ -92,7 +95,7 @@ pub fn explain(
     }
 }
 
-// Reads a text, and of one that is refused finds where.
+// Reads a text, and finds the place where it rejects a text.
 #[tactic(auto, unfolding(crate::specs::Document::machine_of))]
 fn explain_text(
     alloc: Global,

@@ -1,10 +1,10 @@
 // SPDX-License-Identifier: MIT OR Apache-2.0
-//! Where a document is refused.
+//! The place at which a document is rejected.
 //!
-//! This is a second walk over its tables, by the functions that read them and in their order, up to the first that
-//! refuses: they say which value that is, and what stands here is the words for what is wrong with it. Clauses say at
-//! which endpoint and in which of its regions the walk ends: what stands before is read, and this is refused. Which key
-//! and value is told there, and in which words, is shown by tests.
+//! This is a second walk over the document's tables, up to the first value that is rejected. It uses the functions that
+//! read the tables, in their order. So they say which value that is, and this file has the words for what is wrong with
+//! it. Clauses say at which endpoint and in which of its regions the walk ends: all before this place is read, and this
+//! place is rejected. Tests show which key and value are reported there, and in which words.
 ghost use Rattle.std.specs.Prelude.{◌≡◌, ◌≤◌, [], Some, IfOk, IsErr, length};
 ghost use Rattle.toml.specs.View.{view, table_view, items_view};
 ghost use Rattle.ffa_model.specs.Manifest.{regions_of};
@@ -37,11 +37,12 @@ use std::alloc::{AllocError, Global};
 use std::fmt::InlineText;
 use toml::{Table, Value};
 
-// How many bytes of a key or a value are told.
+// The most bytes of a key or a value that a message shows.
 const SHOWN: usize = 60;
 
-/// Where a text is no TOML, from the start of this error on: all that its parser says, on one line, or that a control
-/// character stands there, which the parser calls a bad key, value or string.
+/// Returns the place at which a text is not TOML, from the start of this error on. It has all that the parser says, on
+/// one line. If a control character is there, the place has that character instead, because the parser calls it a bad
+/// key, value or string.
 pub(crate) fn in_text(
     alloc: Global,
     text: &[u8],
@@ -74,7 +75,7 @@ pub(crate) fn in_no_endpoint(found: Found) -> Location
     }
 }
 
-/// Where the document of a top table is refused for a machine of this version of FF-A.
+/// Returns the place at which the document of a top table is rejected, for a machine of this version of FF-A.
 // With this second walk, the functions that read a manifest need not carry places.
 #[tactic(auto, using(crate::proofs::Views::item_count_view), unfolding(crate::specs::Document::machine, crate::specs::Places::top))]
 pub(crate) fn in_top(alloc: Global, table: &Table, ffa: Ffa) -> Result<Location, AllocError>
@@ -106,7 +107,7 @@ pub(crate) fn in_top(alloc: Global, table: &Table, ffa: Ffa) -> Result<Location,
     in_endpoints(alloc, values, ffa, &space)
 }
 
-// Where the endpoints of a top table are refused.
+// Returns the place at which the endpoints of a top table are rejected.
 fn in_endpoints(
     alloc: Global,
     values: &[Value],
@@ -135,7 +136,7 @@ fn in_endpoints(
     unreachable!()
 }
 
-// In which region an endpoint is refused after those before it, where it's in one.
+// Returns what is wrong with an endpoint after those before it, and the number of its region if a region is wrong.
 #[tactic(auto, unfolding(crate::specs::Endpoints::next_endpoint, crate::specs::Places::items_after))]
 fn in_endpoint(
     alloc: Global,
@@ -160,7 +161,7 @@ fn in_endpoint(
     }
 }
 
-// In which of its regions the normal world's table is refused, where it's in one.
+// Returns what is wrong with the normal world's table, and the number of its region if a region is wrong.
 #[tactic(auto, unfolding(crate::specs::Endpoints::normal_world, crate::specs::Places::normal_world_items))]
 fn in_normal_world(
     alloc: Global,
@@ -186,7 +187,8 @@ fn in_normal_world(
     in_regions(alloc, table, space, &[])
 }
 
-// In which of its regions a partition's table is refused, after these endpoints, where it's in one.
+// Returns what is wrong with a partition's table after these endpoints, and the number of its region if a region is
+// wrong.
 #[tactic(auto, unfolding(crate::specs::Endpoints::partition, crate::specs::Places::partition_items))]
 fn in_partition(
     alloc: Global,
@@ -218,7 +220,7 @@ fn in_partition(
     in_regions(alloc, table, space, before)
 }
 
-// Which properties a partition that is built for this version may have.
+// Returns the words for the properties that a partition of this version may have.
 fn properties_wanted(version: Version) -> &'static str {
     match version {
         Version::V1_2 => "must have only bits 0 to 3, 9 and 10",
@@ -226,7 +228,7 @@ fn properties_wanted(version: Version) -> &'static str {
     }
 }
 
-// In which of its regions an endpoint's table is refused, where it's in one.
+// Returns what is wrong with the regions of an endpoint's table, and the number of the region if one is wrong.
 #[tactic(auto, unfolding(crate::specs::Regions::regions_at, crate::specs::Places::region_items))]
 fn in_regions(
     alloc: Global,
@@ -247,7 +249,8 @@ fn in_regions(
     Ok((Some(number), found))
 }
 
-// In which item of an array of regions it is refused, from 1.
+// Returns the number of the first item of an array of regions that is rejected, counted from 1, and what is wrong with
+// it.
 fn in_items(
     alloc: Global,
     values: &[Value],
@@ -274,7 +277,7 @@ fn in_items(
     unreachable!()
 }
 
-// What is refused in a region, after the regions of these endpoints and own ones.
+// Returns what is wrong with a region, after the regions of these endpoints and the endpoint's own earlier regions.
 fn in_region(
     alloc: Global,
     value: &Value,
@@ -305,7 +308,7 @@ fn in_region(
     }
 }
 
-// What is refused in the table of a region that lies where regions may.
+// Returns what is wrong with the table of a region that is where regions may be.
 fn in_place(
     alloc: Global,
     table: &Table,
@@ -326,7 +329,8 @@ fn in_place(
     }
 }
 
-// What is refused in the table of a region that lies elsewhere: its base, the count of its pages, or where they end.
+// Returns what is wrong with the table of a region that is not where regions may be: its base, its number of pages, or
+// their end.
 fn out_of_place(alloc: Global, table: &Table, space: &RegionSpace) -> Result<Found, AllocError>
     ensures { IfOk result SharesPage }
 {
@@ -344,7 +348,7 @@ fn out_of_place(alloc: Global, table: &Table, space: &RegionSpace) -> Result<Fou
     }
 }
 
-// The first key of a table that isn't one of these.
+// Returns the first key of a table that is not one of these.
 fn unknown_key(alloc: Global, table: &Table, names: &[&'static str]) -> Result<Found, AllocError>
     ensures { IfOk result SharesPage }
 {
@@ -363,7 +367,7 @@ fn unknown_key(alloc: Global, table: &Table, names: &[&'static str]) -> Result<F
     })
 }
 
-// The key that a table lacks, or its value with what is wrong with that.
+// Returns the key if the table lacks it, or else its value with what is wrong with the value.
 fn at_key(
     alloc: Global,
     table: &Table,
@@ -382,7 +386,7 @@ fn at_key(
     }
 }
 
-// The same of a key whose value is to be an address or a count of pages.
+// Does what `at_key` does, for a key whose value must be an address or a number of pages.
 fn at_number(
     alloc: Global,
     table: &Table,
@@ -401,7 +405,7 @@ fn at_number(
     }
 }
 
-// The same of a key whose value is to be an array of at most so many tables.
+// Does what `at_key` does, for a key whose value must be an array of at most `most` tables.
 fn at_array(
     alloc: Global,
     table: &Table,
@@ -420,14 +424,14 @@ fn at_array(
     }
 }
 
-// The same of an endpoint's version, where the machine serves this version of FF-A.
+// Does what `at_key` does, for the version of an endpoint on a machine of this version of FF-A.
 fn at_version(alloc: Global, table: &Table, ffa: Ffa) -> Result<Found, AllocError>
     ensures { IfOk result SharesPage }
 {
     at_key(alloc, table, "version", version_fault(table, ffa))
 }
 
-// What is wrong with an endpoint's version.
+// Returns what is wrong with an endpoint's version.
 fn version_fault(table: &Table, ffa: Ffa) -> Fault {
     match ffa {
         Ffa::V1_1 if version_at(table, Ffa::V1_2).is_ok() => Fault::NewerVersion,
@@ -442,7 +446,7 @@ fn no_table(alloc: Global, value: &Value) -> Result<Found, AllocError>
     Ok(Found::NoTable(text_of(alloc, value)?))
 }
 
-// A value as TOML, on one line.
+// Writes a value as TOML, on one line.
 fn text_of(alloc: Global, value: &Value) -> Result<String, AllocError> {
     let text = InlineText::<SHOWN>::of(value);
     text.as_str().replace(alloc, "\n", "\\n")

@@ -1,5 +1,5 @@
 // SPDX-License-Identifier: MIT OR Apache-2.0
-//! The region that another one meets.
+//! The region that another region overlaps.
 ghost use Rattle.std.specs.Prelude.{◌≡◌, ◌≤◌, ◌++◌, Some, false, true, length, MatchOption, slice_get};
 ghost use Rattle.ffa_model.specs.Manifest.{is_apart, regions_of};
 ghost use Rattle.ffa_manifest.specs.Meeting.{Meets};
@@ -9,7 +9,7 @@ use crate::refusal::MetRegion;
 use crate::regions::is_apart;
 use ffa_model::{Endpoint, EndpointId, MOST_ENDPOINTS, Region};
 
-// The first of these regions that has a page of this one, with its place among them.
+// Returns the first of these regions that has a page of this one, and its place among them.
 fn first_met(region: &Region, others: &[Region]) -> Option<(usize, Region)>
     ensures { MatchOption result (is_free others.now region.now ≡ true)
         (λ met. (slice_get others.now met.0 ≡ Some met.1) × (is_apart region.now met.1 ≡ false)) }
@@ -22,8 +22,8 @@ fn first_met(region: &Region, others: &[Region]) -> Option<(usize, Region)>
     None
 }
 
-/// The first region that has a page of this one, among those of these endpoints and then those of the next one that were read
-/// so far.
+/// Returns the first region that has a page of this one. The search takes the regions of these endpoints, and then the
+/// regions of the next endpoint that were read so far.
 #[tactic(auto, using(crate::proofs::Taken::is_free_of_both))]
 pub(crate) fn met_region(
     region: &Region,

@@ -1,15 +1,15 @@
 // SPDX-License-Identifier: MIT OR Apache-2.0
-//! Which name a word that is none may have been meant for.
+//! The name that a wrong word may have been meant for.
 
 use std::alloc::{AllocError, Allocator};
 use strsim::osa_distance;
 
-// How long a word is at most that is near to a name.
+// The most bytes of a word that can be near to a name.
 const LONGEST: usize = 40;
 
-/// The name to which a word is nearest, the first of several, where so few edits lead from one to the other: characters that
-/// are put in, left out or changed, or neighbours that are swapped, one for each three that the name has. Capitals and small
-/// letters are alike.
+/// Returns the name that is nearest to a word, and the first of several. An edit puts in, leaves out or changes a
+/// character, or swaps neighbours. A name is near if at most one edit for each three characters of the name leads from
+/// one to the other. Capitals and small letters are alike. Returns `None` if no name is near.
 pub fn nearest<A: Allocator + Copy>(
     alloc: A,
     word: &str,

@@ -1,6 +1,7 @@
 // SPDX-License-Identifier: MIT OR Apache-2.0
-//! The machine of parts, without a text. The reader of a text has the same tests once more: its causes come endpoint by
-//! endpoint, and those of an early one would come behind those for which a later one tells no parts.
+//! The machine of parts, without a text. The reader of a text repeats the tests of this file, because its causes come
+//! endpoint by endpoint. With the tests of this file, a cause of an early endpoint would come after the causes for
+//! which a later endpoint has no parts.
 ghost use Rattle.std.specs.Prelude.{true, ◌≡◌, ◌&&◌, ◌↔◌, ◌++◌, [], Some, None, IfOk, IfErr, IsOk};
 ghost use Rattle.std.specs.Result.{result_err};
 ghost use Rattle.ffa_model.specs.Manifest.{is_accepted, is_nil as is_nil_in, regions_of};
@@ -25,14 +26,14 @@ fn is_nil(uuid: &[u8; 16]) -> bool
     uuid.iter().all(|byte| *byte == 0)
 }
 
-// Whether a machine of this version of FF-A may have an endpoint of the version.
+// Whether a machine of this version of FF-A may have an endpoint of this version.
 pub(crate) fn is_version(ffa: Ffa, version: Version) -> bool
     ensures { result ≡ is_version ffa version }
 {
     !matches!((ffa, version), (Ffa::V1_1, Version::V1_2))
 }
 
-// Whether an endpoint after these may have the UUID.
+// Whether the endpoint after these may have the UUID.
 pub(crate) fn is_uuid_after(before: &[Endpoint], uuid: &[u8; 16]) -> bool
     ensures { result ≡ is_uuid_after before.now uuid.now }
 {
@@ -43,7 +44,7 @@ pub(crate) fn is_uuid_after(before: &[Endpoint], uuid: &[u8; 16]) -> bool
     }
 }
 
-// Whether an endpoint after these, which is built for this version, may have the properties.
+// Whether the endpoint after these, which is built for this version, may have the properties.
 pub(crate) fn are_properties_after(
     before: &[Endpoint],
     version: Version,
@@ -58,7 +59,7 @@ pub(crate) fn are_properties_after(
     }
 }
 
-// A region's place, and whether a region of an endpoint before it or an own one before it has a page of it.
+// Checks the place of a region, and that it has no page of an earlier endpoint's region or of an own earlier region.
 #[tactic(auto, using(crate::proofs::Taken::is_free_of_both), unfolding(crate::specs::Parts::region_tests))]
 pub(crate) fn check_region(
     space: &RegionSpace,
@@ -80,7 +81,7 @@ pub(crate) fn check_region(
     }
 }
 
-// The regions of an endpoint after these.
+// Checks the regions of the endpoint after these.
 fn check_regions(
     space: &RegionSpace,
     before: &[Endpoint],
@@ -95,7 +96,7 @@ fn check_regions(
     Ok(())
 }
 
-// An endpoint after these.
+// Checks the endpoint after these.
 #[tactic(auto, unfolding(crate::specs::Parts::endpoint_tests))]
 pub(crate) fn check_endpoint(
     ffa: Ffa,
@@ -133,11 +134,14 @@ fn check_endpoints(
     Ok(())
 }
 
-/// The manifest of these parts for a machine of this version of FF-A, or the first cause for which they make no machine, in
-/// the order in which a text would be read: RAM's place and size, the count of endpoints, whether RAM has their tables from a
-/// page on, and then each endpoint whole before the next: its version, its UUID (zeros for the normal world, other than zeros
-/// for a partition), its properties, the count of its regions, and each region: its place, and whether it is apart from all
-/// that came before it. It takes no memory.
+/// Makes the manifest of these parts for a machine of this version of FF-A, or returns the first cause for which they
+/// make no machine. It allocates nothing.
+///
+/// The causes have the order in which a text would be read. First come the place and the size of RAM, the number of
+/// endpoints, and whether RAM has their tables from a page on. Then each endpoint comes whole before the next: its
+/// version, its UUID, its properties, the number of its regions, and each region. The UUID is zeros for the normal
+/// world, and other than zeros for a partition. A region has two tests: its place, and whether it is apart from all
+/// regions before it.
 #[tactic(auto, unfolding(crate::specs::Parts::first_cause, crate::specs::Parts::tests_of))]
 pub fn of_parts(
     ram_base: u32,

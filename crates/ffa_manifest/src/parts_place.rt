@@ -1,5 +1,6 @@
 // SPDX-License-Identifier: MIT OR Apache-2.0
-//! Where parts make no machine: a walk by the tests of `of_parts`, in their order, up to the first that fails.
+//! The place at which parts make no machine. A walk does the tests of `of_parts`, in their order, up to the first that
+//! fails.
 ghost use Rattle.std.specs.Prelude.{◌≡◌, ◌≤◌, ◌++◌, [], None, length};
 ghost use Rattle.ffa_model.specs.Manifest.{regions_of};
 ghost use Rattle.ffa_manifest.specs.Parts.{parts_from, region_tests};
@@ -10,15 +11,17 @@ use crate::parts::{are_properties_after, check_endpoint, check_region, is_uuid_a
 use crate::region_space::{RegionSpace, has_tables, is_ram_base, is_ram_size};
 use ffa_model::{Endpoint, EndpointId, Ffa, MOST_ENDPOINTS, PageNo, Region};
 
-/// Where a manifest without a text is refused: at an endpoint, or at none where that is RAM, the count of endpoints or their tables.
+/// The place at which a manifest without a text is rejected. It has no endpoint if RAM, the number of endpoints or
+/// their tables are wrong.
 #[derive(Clone, Copy, Debug, PartialEq, Eq)]
 pub struct PartsPlace {
     pub endpoint: Option<EndpointId>,
-    /// The endpoint's region, counted from 1, or none where the endpoint is refused by something else.
+    /// The number of the endpoint's region, counted from 1, or `None` if something else of the endpoint is wrong.
     pub region: Option<usize>,
 }
 
-// The first of these regions that is refused, beside those of endpoints before it and own ones before it.
+// Returns the number of the first of these regions that is rejected, after the regions of earlier endpoints and own
+// earlier regions.
 fn refused_region(space: &RegionSpace, before: &[Endpoint], regions: &[Region]) -> Option<usize>
     ensures { result ≡ refused_from (λ own r. region_tests (is_in space.now) (regions_of before.now ++ own) r) [] regions.now }
 {
@@ -30,7 +33,7 @@ fn refused_region(space: &RegionSpace, before: &[Endpoint], regions: &[Region]) 
     None
 }
 
-// In which region an endpoint after these is refused.
+// Returns the number of the region in which the endpoint after these is rejected.
 #[tactic(auto, unfolding(crate::specs::PartsPlaces::region_place))]
 fn region_place(
     ffa: Ffa,
@@ -47,7 +50,7 @@ fn region_place(
     refused_region(space, before, endpoint.regions.as_slice())
 }
 
-// Where these endpoints are refused.
+// Returns the place at which these endpoints are rejected.
 fn in_endpoints(ffa: Ffa, space: &RegionSpace, endpoints: &[Endpoint]) -> PartsPlace
     requires { length endpoints.now ≤ MOST_ENDPOINTS }
     ensures { result ≡ place_from ffa (is_in space.now) [] endpoints.now }
@@ -64,7 +67,8 @@ fn in_endpoints(ffa: Ffa, space: &RegionSpace, endpoints: &[Endpoint]) -> PartsP
     PartsPlace::nowhere()
 }
 
-/// Where these parts make no machine: the endpoint and the region of the test for which `of_parts` refuses them.
+/// Returns the place at which these parts make no machine: the endpoint and the region of the test for which `of_parts`
+/// rejects them.
 #[tactic(auto, unfolding(crate::specs::PartsPlaces::place_of))]
 pub fn place_of_parts(
     ram_base: u32,
@@ -93,7 +97,7 @@ pub fn place_of_parts(
 }
 
 impl PartsPlace {
-    /// At no endpoint.
+    /// Returns the place at no endpoint.
     pub fn nowhere() -> PartsPlace
         ensures endpoint { result.endpoint ≡ None }
         ensures region { result.region ≡ None }

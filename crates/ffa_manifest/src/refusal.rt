@@ -1,8 +1,8 @@
 // SPDX-License-Identifier: MIT OR Apache-2.0
-//! What is told of a manifest that is refused.
+//! The report of a manifest that is rejected.
 //!
-//! Addresses and counts of pages are told as a trace has numbers, hexadecimal in upper case without a prefix, addresses in eight
-//! digits or more, and endpoints by their identifiers.
+//! Addresses and numbers of pages are in the form of a trace: hexadecimal in upper case without a prefix, and at least
+//! eight digits for an address. Endpoints have their identifiers.
 
 use crate::error::ManifestError;
 use crate::error_start::ErrorStart;
@@ -11,52 +11,53 @@ use ffa_model::{EndpointId, MOST_BLOCKS, MOST_RAM, Region};
 use std::fmt;
 use std::str::Utf8Error;
 
-/// Why a manifest is refused, and where. It prints as one line.
+/// The cause for which a manifest is rejected, and the place. It prints as one line.
 #[derive(Debug, Drop)]
 pub struct ManifestRefusal {
     /// The first cause that applies, in the order in which the text is read.
     pub cause: ManifestError,
-    /// Where it applies.
+    /// The place at which the cause applies.
     pub place: Location,
-    /// At which byte, from 0, the text is no UTF-8, or the parser's error of a text that is no TOML begins.
+    /// The byte, counted from 0, at which the text is not UTF-8. If the text is not TOML, it is the byte at which the
+    /// parser's error begins.
     pub byte: Option<usize>,
 }
 
-/// Where a manifest is refused.
+/// The place at which a manifest is rejected.
 #[derive(Debug, Drop)]
 pub struct Location {
     /// The endpoint, or `None` in the top table.
     pub endpoint: Option<EndpointId>,
     /// The endpoint's region, counted from 1, or `None` in the endpoint's own table.
     pub region: Option<usize>,
-    /// What stands there.
+    /// The thing that is wrong there.
     pub found: Found,
 }
 
-/// What is refused in a manifest. Keys and values that are no numbers stand on one line, values as TOML, and end in `...`
-/// where they are cut.
+/// The thing that is wrong in a manifest. Keys, and values that are not numbers, are on one line. A value is written as
+/// TOML. A key or a value that is cut ends in `...`.
 #[derive(Debug, Drop)]
 pub enum Found {
-    /// The text is no UTF-8.
+    /// The text is not UTF-8.
     NoText(Utf8Error),
-    /// The text is no TOML: what the parser says of it, with a line and a column that count from 1, and where its error
-    /// begins.
+    /// The text is not TOML. `said` is what the parser says of it, with a line and a column that count from 1, and
+    /// `start` is where the parser's error begins.
     NoToml {
         said: String,
         start: ErrorStart,
     },
-    /// The text is no TOML, since a control character stands there, where the parser's error begins.
+    /// The text is not TOML, because a control character is where the parser's error begins.
     Control {
         byte: u8,
         place: TextPlace,
         start: ErrorStart,
     },
-    /// A key that isn't one of the table's, and the one of these that it is nearest to, where it is near to one.
+    /// A key that is not one of the table's, and the nearest of the table's keys, if one is near.
     UnknownKey {
         key: String,
         near: Option<&'static str>,
     },
-    /// One of the table's keys, which it lacks.
+    /// One of the table's keys, which the table lacks.
     MissingKey(&'static str),
     /// The value at one of the table's keys, and what is wrong with it.
     Value {
@@ -64,63 +65,64 @@ pub enum Found {
         value: String,
         fault: Fault,
     },
-    /// The number at one of the table's keys that is an address or counts pages, and what is wrong with it.
+    /// The number at one of the table's keys that is an address or a number of pages, and what is wrong with it.
     Number {
         key: &'static str,
         number: i64,
         fault: Fault,
     },
-    /// The array at one of the table's keys has so many members, and not 1 to `most`.
+    /// The array at one of the table's keys has `count` members, and not 1 to `most`.
     Count {
         key: &'static str,
         count: usize,
         most: usize,
     },
-    /// What stands in the place of the table of an endpoint or a region.
+    /// The value that is there instead of the table of an endpoint or a region.
     NoTable(String),
-    /// Whole pages that don't all lie where regions may.
+    /// Whole pages that are not all where regions may be.
     Outside {
         base: u64,
         pages: u64,
         bounds: Bounds,
     },
-    /// A region, and one before it that has a page of it too.
+    /// A region, and an earlier region that has a page of it too.
     Overlap {
         region: Region,
         met: MetRegion,
     },
 }
 
-/// A region that was read before, and where it stands in the manifest.
+/// A region that was read before, and its place in the manifest.
 #[derive(Clone, Copy, Debug, PartialEq, Eq)]
 pub struct MetRegion {
     pub endpoint: EndpointId,
-    /// Its place among the endpoint's regions, from 0.
+    /// The place of the region among the endpoint's regions, counted from 0.
     pub place: usize,
     pub region: Region,
 }
 
-/// Where the regions of a machine may lie: the addresses of the first byte and behind the last.
+/// The bounds in which the regions of a machine may be: the addresses of the first byte, and of the byte after the
+/// last.
 #[derive(Clone, Copy, Debug, PartialEq, Eq)]
 pub struct Bounds {
     pub first: u64,
     pub end: u64,
 }
 
-/// What is wrong with a value.
+/// The reason why a value is wrong.
 #[derive(Clone, Copy, Debug)]
 pub enum Fault {
-    /// No RAM begins there.
+    /// No RAM begins at this address.
     RamBase,
-    /// No RAM has so many blocks.
+    /// No RAM has this number of blocks.
     BlockCount,
-    /// No region begins there.
+    /// No region begins at this address.
     RegionBase(Bounds),
-    /// No region has so many pages.
+    /// No region has this number of pages.
     PageCount,
-    /// A machine of FF-A 1.1 has no endpoint of this version, but one of FF-A 1.2 may have it.
+    /// A machine of FF-A 1.1 has no endpoint of this version, but a machine of FF-A 1.2 may have it.
     NewerVersion,
-    /// What these words say.
+    /// The reason that these words give.
     Words(&'static str),
 }
 
@@ -146,7 +148,7 @@ impl fmt::Display for Fault {
     }
 }
 
-// A place, from 0, in words: 1st, 2nd and so on, as far as endpoints go.
+// A place, counted from 0, in words: 1st, 2nd and so on, up to the number of endpoints.
 #[derive(Clone, Copy)]
 struct Nth(usize);
 
@@ -161,8 +163,8 @@ impl fmt::Display for Nth {
     }
 }
 
-// A number as a trace has it, an address in eight digits or more, with the decimal digits behind it where they are others: a
-// value of TOML doesn't tell in which form it was written.
+// A number in the form of a trace, with at least eight digits for an address. Its decimal digits follow if they are
+// others, because a value of TOML does not show in which form it was written.
 #[derive(Clone, Copy)]
 struct Number {
     sign: &'static str,
@@ -187,7 +189,7 @@ impl Number {
         }
     }
 
-    // A number of the manifest with which this is wrong.
+    // Makes the number of a manifest that is wrong for this reason.
     fn refused(number: i64, fault: Fault) -> Number {
         Number {
             sign: if number < 0 { "-" } else { "" },
@@ -214,7 +216,7 @@ impl fmt::Display for Number {
     }
 }
 
-// The addresses of the first and the last byte of pages.
+// Pages, which print as the addresses of their first and their last byte.
 #[derive(Clone, Copy)]
 struct Pages {
     base: u64,
@@ -270,7 +272,8 @@ impl fmt::Display for ManifestRefusal {
 
 impl std::error::Error for ManifestRefusal {}
 
-// The base and the pages of a region as the manifest has them, and the addresses of its first and its last byte.
+// Writes the base and the number of pages of a region as the manifest has them, and the addresses of its first and its
+// last byte.
 fn write_region<W: fmt::Write>(f: &mut fmt::Formatter<W>, base: u64, pages: u64) -> fmt::Result {
     let (first, count) = (Number::address(base), Number::count(pages));
     let all = Pages { base, pages };

@@ -1,5 +1,5 @@
 // SPDX-License-Identifier: MIT OR Apache-2.0
-//! Where the regions of a machine may lie.
+//! The space in which the regions of a machine may be.
 ghost use Rattle.std.specs.Prelude.{◌≡◌, ◌-◌, ◌*◌, ◌^◌, ◌≤◌};
 ghost use Rattle.ffa_model.specs.declared.limits.TheConstants.{MOST_BLOCKS, MOST_ENDPOINTS, MOST_RAM};
 ghost use Rattle.ffa_manifest.specs.Document.{is_text_base};
@@ -8,28 +8,29 @@ ghost use Rattle.ffa_model.specs.Manifest.{has_tables, is_ram_base, is_ram_size,
 use crate::refusal::Bounds;
 use ffa_model::{MOST_BLOCKS, MOST_RAM, Region, Rights};
 
-// A block of RAM, in bytes.
+// The number of bytes of a block of RAM.
 const BLOCK: u64 = 0x20_0000;
 
-// What a table of level 2 names, in bytes.
+// The number of bytes that a table of level 2 covers.
 const GIB: u32 = 1 << 30;
 
-/// Whether the text of a manifest lets RAM begin at this address: a multiple of the largest RAM, but not 0, from which
-/// the largest RAM ends at 2^32 at most.
+/// Whether the text of a manifest lets RAM begin at this address. The address must be a multiple of the largest RAM
+/// (`MOST_RAM`), but not 0, and the largest RAM must end at 2^32 at most.
 pub(crate) fn is_text_base(base: u64) -> bool
     ensures { result ≡ is_text_base base }
 {
     base % MOST_RAM == 0 && MOST_RAM <= base && base <= (1 << 32) - MOST_RAM
 }
 
-/// Whether RAM may begin at this address: a multiple of 2 MiB, but not 0.
+/// Whether RAM may begin at this address, which must be a multiple of 2 MiB, but not 0.
 pub(crate) fn is_ram_base(base: u32) -> bool
     ensures { result ≡ is_ram_base base }
 {
     base.is_multiple_of(BLOCK as u32) && base != 0
 }
 
-/// Whether RAM may have so many blocks from an address on, so that it ends at 2^32 at most, and lies in one GiB.
+/// Whether RAM may have this number of blocks from an address on: 1 to `MOST_BLOCKS`, so that RAM ends at 2^32 at most,
+/// and is in one GiB.
 pub(crate) fn is_ram_size(base: u32, blocks: u32) -> bool
     ensures { result ≡ is_ram_size base blocks }
 {
@@ -37,7 +38,7 @@ pub(crate) fn is_ram_size(base: u32, blocks: u32) -> bool
     1 <= blocks && blocks <= MOST_BLOCKS && u64::from(base % GIB) + size <= u64::from(GIB)
 }
 
-/// Whether RAM of so many blocks has the tables of so many endpoints from a page on.
+/// Whether RAM of this number of blocks has the tables of this number of endpoints from page `tables` on.
 pub(crate) fn has_tables(tables: u32, blocks: u32, endpoints: usize) -> bool
     requires blocks { blocks ≤ MOST_BLOCKS }
     requires few { endpoints ≤ MOST_ENDPOINTS }
@@ -46,16 +47,16 @@ pub(crate) fn has_tables(tables: u32, blocks: u32, endpoints: usize) -> bool
     u64::from(tables) + endpoints as u64 * u64::from(2 + blocks) <= 512 * u64::from(blocks)
 }
 
-/// A machine's RAM, of which some pages hold the tables of its endpoints.
+/// The RAM of a machine, in which some pages hold the tables of its endpoints.
 #[derive(Clone, Copy)]
 pub(crate) struct RegionSpace {
     /// The address of RAM's first byte.
     pub base: u32,
     /// The first page of the tables.
     pub tables: u32,
-    /// RAM's size, in blocks of 2 MiB.
+    /// The size of RAM, in blocks of 2 MiB.
     pub blocks: u32,
-    /// How many endpoints have tables.
+    /// The number of endpoints that have tables.
     pub endpoints: u32,
     ghost within: { ram_end base blocks ≤ 2 ^ 32 },
     ghost small: { blocks ≤ MOST_BLOCKS },
@@ -66,7 +67,7 @@ pub(crate) struct RegionSpace {
 impl RegionSpace {
     ghost use Rattle.ffa_manifest.specs.RegionSpace.{is_clear, placed};
 
-    /// Where regions may lie, where the tables begin RAM: behind these, and in RAM.
+    /// Returns the bounds of regions, if the tables begin RAM: after the tables, and in RAM.
     pub(crate) fn bounds(&self) -> Bounds
         ensures first { result.first ≡ tables_end self.now.base self.now.tables self.now.blocks self.now.endpoints }
         ensures end { result.end ≡ ram_end self.now.base self.now.blocks }
@@ -78,7 +79,7 @@ impl RegionSpace {
         }
     }
 
-    // Whether all bytes from one address up to another lie in RAM, and none in the tables.
+    // Whether all bytes from one address up to another are in RAM, and outside the tables.
     fn has(&self, base: u64, region_end: u128) -> bool
         ensures { result ≡ is_clear self.now base region_end }
     {
@@ -90,8 +91,8 @@ impl RegionSpace {
             && (region_end <= u128::from(tables) || first <= base)
     }
 
-    /// The region of these numbers, where it's of whole pages, at least one, that all lie in RAM and are none of the
-    /// tables'.
+    /// Returns the region of these numbers, if it is of whole pages, at least one, that are all in RAM and outside the
+    /// tables. Returns `None` otherwise.
     pub(crate) fn region(&self, base: u64, pages: u64, rights: Rights) -> Option<Region>
         ensures { result ≡ placed self.now (record { base = base; pages = pages; rights = rights }) }
     {

@@ -99,7 +99,7 @@ pub(crate) fn is_apart_from_all(region: &Region, others: &[Region]) -> bool
     others.iter().all(|other| is_apart(region, other))
 }
 
-// No endpoint has a page of the region.
+// Whether no endpoint has a page of the region.
 pub(crate) fn is_free(region: &Region, endpoints: &[Endpoint]) -> bool
     ensures { result ≡ list_all (λ (e : Endpoint). is_free_in e.regions.items region.now) endpoints.now }
 {
@@ -145,7 +145,7 @@ pub(crate) fn regions_from(
     Ok(own)
 }
 
-/// The items of the array `regions`.
+/// Returns the items of the array `regions`. Returns `RegionCount` if it has no items, or more than `MOST_REGIONS`.
 pub(crate) fn region_items(table: &Table) -> Result<&[Value], ManifestError>
     ensures items { let read = items_at (codes "regions") MOST_REGIONS RegionCount (table_view table.now) in
         Exact (λ vs. items_view vs.now) result read }
@@ -154,7 +154,8 @@ pub(crate) fn region_items(table: &Table) -> Result<&[Value], ManifestError>
     items_at(table, "regions", MOST_REGIONS, ManifestError::RegionCount)
 }
 
-/// The regions of an endpoint's table, which lie apart from those of the endpoints before it.
+/// Reads the regions of an endpoint's table, which must be apart from the regions of the endpoints before it. Returns
+/// the first cause if it rejects a region.
 #[tactic(auto, unfolding(crate::specs::Regions::regions_at))]
 pub(crate) fn regions_at(
     table: &Table,

@@ -1,9 +1,9 @@
 // SPDX-License-Identifier: MIT OR Apache-2.0
-//! Where a byte of a text stands.
+//! The place of a byte in a text.
 ghost use Rattle.std.specs.Prelude.{◌≡◌, ◌≤◌, length, take};
 ghost use Rattle.ffa_manifest.specs.TextPlaces.{column_behind, is_first_byte, line_behind};
 
-/// Where a byte of a text stands: its line, and its column there, in characters. Both count from 1.
+/// The place of a byte in a text: its line, and its column in this line, in characters. Both count from 1.
 #[derive(Clone, Copy, Debug, PartialEq, Eq)]
 pub struct TextPlace {
     pub line: usize,
@@ -11,7 +11,7 @@ pub struct TextPlace {
 }
 
 impl TextPlace {
-    /// Of the byte at this place in the text, from 0, or where one behind the last would stand.
+    /// Returns the place of a byte of the text, counted from 0, or the place after the last byte.
     pub fn of(text: &[u8], at: usize) -> TextPlace
         requires { at ≤ length text.now }
         ensures line { result.line ≡ line_behind (take at text.now) }
@@ -32,7 +32,7 @@ impl TextPlace {
     }
 }
 
-// Whether a byte is the first of a character, in UTF-8.
+// Whether a byte is the first byte of a character in UTF-8.
 fn is_first_byte(byte: u8) -> bool
     ensures { result ≡ is_first_byte byte }
 {

@@ -3,6 +3,7 @@ pub mod Numbers
 pub mod Listed
 pub mod Firsts
 pub mod Entries
+pub mod Apart
 pub mod Decisions
 pub mod HeaderLaw
 pub mod SendLaw

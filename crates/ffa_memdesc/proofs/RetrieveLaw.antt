@@ -1,7 +1,6 @@
 -- SPDX-License-Identifier: MIT OR Apache-2.0
 -- A retrieve: what is computed is what the relation says, both ways.
-use Rattle.std.proofs.Common.{◌≡◌, ◌≢◌, ℕ, zero, suc, ◌-◌, ◌*◌, ◌^◌, ◌<◌, Bool, true, false, not, cond, Option, Some, None, refl, sym, ap, ◌∙◌, subst, arith, eqb, inl, inr}
-use Rattle.std.specs.List.{list_any}
+use Rattle.std.proofs.Common.{◌≡◌, ◌≢◌, ℕ, zero, suc, ◌-◌, ◌*◌, ◌^◌, ◌<◌, Bool, true, not, cond, Option, Some, None, refl, sym, ap, ◌∙◌, subst, arith, eqb, inl, inr}
 use Rattle.std.proofs.lemmas.Bool.{and_parts, and_from, cases_Bool, eqb-true, eqb-false, eq-eqb, leb-true, le-leb, ne_eqb, not-true}
 use Rattle.std.proofs.lemmas.Option.{cond_some, same_Some}
 use Rattle.ffa_model.specs.declared.rights.Data.{Data}
@@ -12,9 +11,8 @@ use Rattle.ffa_model.specs.declared.rights.Kind.{Kind}
 use Rattle.ffa_model.specs.declared.rights.Kind.TheVariants.{Share}
 use Rattle.ffa_model.specs.declared.descriptor.RetrieveDesc.{RetrieveDesc}
 use Rattle.ffa_model.specs.Bits.{bits, is_set}
-use Rattle.ffa_model.specs.Lists.{listed}
 use Rattle.ffa_model.specs.DescriptorPlaces.{is_header, flags_field, receiver_count, access_place, data_code, data_of, kind_code, kind_of, Versioned}
-use Rattle.ffa_model.specs.RetrieveDescriptor.{AreNaming, HasNames, IsNaming, Retrieve, asked_permissions, endpoint_named, flags_but_alone, has_names, is_naming, is_retrieve_access, is_retrieve_header, retrieve_in, retrieve_of}
+use Rattle.ffa_model.specs.RetrieveDescriptor.{HasNames, IsNaming, Retrieve, asked_permissions, endpoint_named, flags_but_alone, has_names, is_naming, is_retrieve_access, is_retrieve_header, retrieve_in, retrieve_of}
 use Rattle.ffa_memdesc.proofs.Decisions.{cond_true, differ, differ_again, either_told, either_again}
 use Rattle.ffa_memdesc.proofs.HeaderLaw.{header_told, header_again}
 use Rattle.ffa_memdesc.proofs.Listed.{holds_told, holds_again, none_told, none_again}

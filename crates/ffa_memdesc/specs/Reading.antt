@@ -1,7 +1,7 @@
 -- SPDX-License-Identifier: MIT OR Apache-2.0
 -- FOR PROOFS ALONE
 -- What the parts of a reader answer.
-use Rattle.std.specs.Prelude.{ℕ, ◌+◌, ◌*◌, ◌%◌, ◌^◌, ◌==◌, Bool, not, ◌&&◌, nat_le, if◌then◌else◌, List, [], ◌∷◌, length, Option, Some, None, position, unwrap_or}
+use Rattle.std.specs.Prelude.{◌≡◌, ℕ, ◌+◌, ◌*◌, ◌%◌, ◌^◌, ◌<◌, ◌==◌, Bool, true, not, ◌&&◌, nat_le, if◌then◌else◌, List, [], ◌∷◌, length, take, slice_index_or, Option, Some, None, position, unwrap_or}
 use Rattle.ffa_model.specs.declared.flaw.Flaw.{Flaw}
 use Rattle.ffa_model.specs.declared.flaw.Flaw.TheVariants.{Access as FlawOfAccess, Composite as FlawOfComposite, Range as FlawOfRange}
 use Rattle.ffa_model.specs.declared.flaw.AccessFlaw.TheVariants.{Permissions, Flags, OtherComposite, Reserved as AccessReserved, ReceiverIsSender, ReceiverTwice}
@@ -96,10 +96,9 @@ range_count_of b end composite =
     && nat_le (composite + 16 + 16 * u32_at b (composite + 4)) (length b)
     then Some (u32_at b (composite + 4)) else None
 
--- the range at a place, where it is one and has no page of an earlier one
-unfoldable pub range_of : List ℕ → ℕ → List Range → Option Range
-range_of b at earlier =
-    if is_range b at && list_all (are_apart (range_at b at)) earlier then Some (range_at b at) else None
+-- the range at a place, where it is one by itself
+unfoldable pub range_of : List ℕ → ℕ → Option Range
+range_of b at = if is_range b at then Some (range_at b at) else None
 
 -- range i of a composite, and whether it is one beside the earlier ones
 abbrev pub range_after : List ℕ → ℕ → ℕ → Range
@@ -170,3 +169,24 @@ range_flaw_at b at earlier i =
 -- of range i of a composite
 abbrev pub range_flaw_after : List ℕ → ℕ → ℕ → Option Flaw
 range_flaw_after b composite i = range_flaw_at b (composite + 16 + 16 * i) (listed i (range_after b composite)) i
+
+-- of the range at a place by itself, which is number i
+unfoldable pub own_flaw_at : List ℕ → ℕ → ℕ → Option Flaw
+own_flaw_at b at i =
+    first_broken ((nat_le 1 (range_at b at).pages, FlawOfRange i Empty)
+    ∷ ((range_at b at).address % 4096 == 0, FlawOfRange i RangeUnaligned)
+    ∷ (nat_le (range_end (range_at b at)) (2 ^ 48), FlawOfRange i TooHigh)
+    ∷ (u32_at b (at + 12) == 0, FlawOfRange i RangeReserved)
+    ∷ [])
+
+-- of range i of a composite by itself
+abbrev pub own_flaw_after : List ℕ → ℕ → ℕ → Option Flaw
+own_flaw_after b composite i = own_flaw_at b (composite + 16 + 16 * i) i
+
+-- no two of these ranges have a page in common
+abbrev pub AreApart : List Range → Type 0
+AreApart ranges = (i j : ℕ) (d : Range) → i < j → j < length ranges → are_apart (slice_index_or ranges j d) (slice_index_or ranges i d) ≡ true
+
+-- whether the range at an index is apart from those before it
+abbrev pub IsApartAt : List Range → ℕ → Bool → Type 0
+IsApartAt ranges i apart = (d : Range) → list_all (are_apart (slice_index_or ranges i d)) (take i ranges) ≡ apart

@@ -135,6 +135,7 @@ fn read_in<B: Bytes>(bytes: &B, version: Version) -> Result<Header, HeaderFlaw>
 }
 
 /// The header, where the bytes have one of this version: its access descriptors stand behind it and inside the bytes.
+#[inline(always)]
 pub fn read_header<B: Bytes>(bytes: &B, version: Version) -> Result<Header, HeaderFlaw>
     ensures whole { OnOk result (IsHeader (in_version version (B.bytes bytes.now))) }
     ensures found { IfOk result (λ h. h ≡ header_in (in_version version (B.bytes bytes.now))) }

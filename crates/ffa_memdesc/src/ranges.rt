@@ -1,7 +1,7 @@
 // SPDX-License-Identifier: MIT OR Apache-2.0
 //! The composite of a send: its ranges.
 
-ghost use Rattle.std.specs.Prelude.{◌≡◌, ℕ, ◌+◌, ◌*◌, ◌≤◌, [], length, Some, IfOk, OnOk};
+ghost use Rattle.std.specs.Prelude.{◌≡◌, ℕ, ◌+◌, ◌*◌, ◌≤◌, ◌<◌, [], length, true, false, Some, None, IfOk, IfErr, OnOk, OnErr, IfSome, IfNone};
 ghost use Rattle.std.specs.List.{list_all};
 ghost use Rattle.std.specs.Option.{option_map};
 ghost use Rattle.std.specs.Result.{result_err};
@@ -10,7 +10,8 @@ ghost use Rattle.ffa_model.specs.DescriptorPlaces.{accesses_size};
 ghost use Rattle.ffa_model.specs.FirstFlaws.{first_of};
 ghost use Rattle.ffa_model.specs.declared.flaw.Flaw.TheVariants.{Composite as FlawOfComposite, Range as FlawOfRange};
 ghost use Rattle.ffa_model.specs.SendDescriptor.{range_end, are_apart, page_total};
-ghost use Rattle.ffa_memdesc.specs.Reading.{range_count_of, range_of, ranges_of, composite_flaw_at, range_flaw_at, range_flaw_after};
+ghost use Rattle.ffa_model.specs.Lists.{listed};
+ghost use Rattle.ffa_memdesc.specs.Reading.{AreApart, IsApartAt, range_count_of, range_of, range_after, ranges_of, composite_flaw_at, own_flaw_at, own_flaw_after, range_flaw_after};
 
 use crate::bytes::{Bytes, read_u32, read_u64};
 use crate::header::{Header, RANGE_SIZE, accesses_size};
@@ -81,13 +82,13 @@ pub fn is_apart_from(range: &Range, others: &[Range]) -> bool
     others.iter().all(|r| are_apart(range, r))
 }
 
-/// The range at this place, where it has no page of an earlier one.
-#[tactic(auto, unfolding(crate::specs::Reading::range_of, crate::specs::Reading::range_flaw_at))]
-fn read_range<B: Bytes>(bytes: &B, at: usize, earlier: &[Range]) -> Result<Range, RangeFlaw>
+/// The range at this place, where it is one by itself.
+#[tactic(auto, unfolding(crate::specs::Reading::range_of, crate::specs::Reading::own_flaw_at))]
+fn read_range<B: Bytes>(bytes: &B, at: usize) -> Result<Range, RangeFlaw>
     requires { at + 16 ≤ length (B.bytes bytes.now) }
-    ensures found { IfOk result (λ r. Some r ≡ range_of (B.bytes bytes.now) at earlier.now) }
+    ensures found { IfOk result (λ r. Some r ≡ range_of (B.bytes bytes.now) at) }
     ensures first { (i : ℕ) → let broken = option_map (λ flaw. FlawOfRange i flaw) (result_err result) in
-        broken ≡ range_flaw_at (B.bytes bytes.now) at earlier.now i }
+        broken ≡ own_flaw_at (B.bytes bytes.now) at i }
 {
     // Proof step: the number of bytes fits a usize.
     let _ = bytes.len();
@@ -107,10 +108,85 @@ fn read_range<B: Bytes>(bytes: &B, at: usize, earlier: &[Range]) -> Result<Range
     if read_u32(bytes, at + 12) != 0 {
         return Err(RangeFlaw::Reserved);
     }
-    if !is_apart_from(&range, earlier) {
-        return Err(RangeFlaw::Overlap);
-    }
     Ok(range)
+}
+
+/// Puts the ranges of the composite into an empty list, up to the first that is none by itself.
+fn read_each<B: Bytes>(
+    bytes: &B,
+    composite: u32,
+    count: u32,
+    ranges: &mut ArrayVec<Range, MOST_RANGES>,
+) -> Result<(), Flaw>
+    requires few { count ≤ MOST_RANGES }
+    requires inside { composite + 16 + 16 * count ≤ length (B.bytes bytes.now) }
+    requires empty { ranges.old.items ≡ [] }
+    ensures listed { let read = range_after (B.bytes bytes.now) composite in
+        ranges.new.items ≡ listed (length ranges.new.items) read }
+    ensures whole { (i : ℕ) → i < length ranges.new.items → None ≡ own_flaw_after (B.bytes bytes.now) composite i }
+    ensures all { OnOk result (length ranges.new.items ≡ count) }
+    ensures some { OnErr result (length ranges.new.items < count) }
+    ensures first { let broken = own_flaw_after (B.bytes bytes.now) composite (length ranges.new.items) in
+        IfErr result (λ flaw. Some flaw ≡ broken) }
+{
+    for i in 0..count {
+        let at = composite as usize + 16 + RANGE_SIZE as usize * i as usize;
+        match read_range(bytes, at) {
+            Ok(range) => ranges.push(range),
+            Err(flaw) => return Err(Flaw::Range(i, flaw)),
+        }
+    }
+    Ok(())
+}
+
+// Whether each range ends before the next begins.
+fn are_in_order(ranges: &[Range]) -> bool
+    ensures { result ≡ true → AreApart ranges.now }
+{
+    let mut end = 0;
+    for place in 0..ranges.len() {
+        let range = &ranges[place];
+        if u128::from(range.address) < end {
+            return false;
+        }
+        end = range_end(range);
+    }
+    true
+}
+
+// Whether these ranges are apart, by a copy that is in the order of their addresses.
+#[inline(never)]
+fn are_apart_sorted(ranges: &[Range]) -> bool
+    requires { length ranges.now ≤ MOST_RANGES }
+    ensures { result ≡ true → AreApart ranges.now }
+{
+    let mut sorted: ArrayVec<Range, MOST_RANGES> = ArrayVec::new();
+    for range in ranges {
+        sorted.push(*range);
+    }
+    let places = sorted.as_mut_slice();
+    places.sort_unstable_by_key(|range| range.address);
+    are_in_order(places)
+}
+
+// The first range with a page of an earlier one. Each is compared with all before it only where two overlap.
+#[inline(always)]
+fn first_overlap(ranges: &[Range]) -> Option<usize>
+    requires { length ranges.now ≤ MOST_RANGES }
+    ensures none { IfNone result ((i : ℕ) → i < length ranges.now → IsApartAt ranges.now i true) }
+    ensures inside { IfSome result (λ place. place < length ranges.now) }
+    ensures first { IfSome result (λ place. (i : ℕ) → i < place → IsApartAt ranges.now i true) }
+    ensures overlaps { IfSome result (λ place. IsApartAt ranges.now place false) }
+{
+    if are_in_order(ranges) || are_apart_sorted(ranges) {
+        return None;
+    }
+    for place in 0..ranges.len() {
+        if !is_apart_from(&ranges[place], &ranges[..place]) {
+            return Some(place);
+        }
+    }
+    None
 }
 
 /// Puts the ranges of the composite into an empty list, where all fit. The list is the caller's, since it is
@@ -127,14 +203,11 @@ pub fn read_ranges<B: Bytes>(
     ensures found { OnOk result (Some ranges.new.items ≡ ranges_of (B.bytes bytes.now) composite count) }
     ensures first { result_err result ≡ first_of count (range_flaw_after (B.bytes bytes.now) composite) }
 {
-    for i in 0..count {
-        let at = composite as usize + 16 + RANGE_SIZE as usize * i as usize;
-        match read_range(bytes, at, ranges) {
-            Ok(range) => ranges.push(range),
-            Err(flaw) => return Err(Flaw::Range(i, flaw)),
-        }
+    let read = read_each(bytes, composite, count, ranges);
+    match first_overlap(ranges) {
+        Some(place) => Err(Flaw::Range(place as u32, RangeFlaw::Overlap)),
+        None => read,
     }
-    Ok(())
 }
 
 /// How many pages the ranges of a transaction have together. Nothing wraps.

@@ -32,7 +32,7 @@ impl Common {
     }
 
     // What both these pages and one more have.
-    fn and(self, own_right: Option<Rights>) -> Common
+    pub(crate) fn and(self, own_right: Option<Rights>) -> Common
         ensures writable { result.is_writable ≡ (self.is_writable && may_store own_right) }
         ensures executable { result.is_executable ≡ (self.is_executable && may_fetch own_right) }
     {

@@ -1,38 +1,25 @@
 // SPDX-License-Identifier: MIT OR Apache-2.0
 //! Who holds an open transaction, and with which right.
-ghost use Rattle.std.specs.Prelude.{◌≡◌, ◌<◌, ◌≤◌, length, None};
+ghost use Rattle.std.specs.Prelude.{◌≡◌, ◌<◌};
 ghost use Rattle.std.specs.FinMap as finite;
 ghost use Rattle.ffa_model.specs.declared.limits.TheConstants.{MOST_ENDPOINTS};
 ghost use Rattle.ffa_model.specs.Identifiers.{identifier, place};
 ghost use Rattle.ffa_memshare.specs.Held.{held_with};
 
-use arrayvec::ArrayVec;
 use ffa_model::{EndpointId, MOST_ENDPOINTS, Rights};
 use std::marker::Model;
-
-// Fills a list, from its front on, with the rights of a slice alone.
-fn fill(list: &mut ArrayVec<Option<Rights>, MOST_ENDPOINTS>, rights: &[Option<Rights>])
-    requires { length rights.now ≤ MOST_ENDPOINTS }
-    ensures { list.new.items ≡ rights.now }
-{
-    list.clear();
-    for right in rights {
-        list.push(*right);
-    }
-}
 
 /// The right that each endpoint holds. It stands at the endpoint's place in the manifest.
 #[derive(Drop)]
 pub struct Holders {
-    rights: ArrayVec<Option<Rights>, MOST_ENDPOINTS>,
+    rights: [Option<Rights>; MOST_ENDPOINTS],
 }
 
 impl Model for Holders {
-    ghost use Rattle.std.specs.Prelude.{◌≡◌};
+    ghost use Rattle.std.specs.Prelude.{◌≡◌, length};
     ghost use Rattle.std.specs.Ordering.{nat_cmp};
     ghost use Rattle.std.specs.FinMap as finite;
     ghost use Rattle.std.specs.Coded.{coded_ℕ};
-    ghost use Rattle.arrayvec.specs.ArrayVec.{array_vec_len};
     ghost use Rattle.ffa_model.specs.declared.rights.Rights.{Rights};
     ghost use Rattle.ffa_model.specs.Codes.{coded_rights};
     ghost use Rattle.ffa_model.specs.declared.limits.TheConstants.{MOST_ENDPOINTS};
@@ -43,9 +30,9 @@ impl Model for Holders {
 
     ghost use Rattle.ffa_memshare.specs.Held.{held_in};
 
-    ghost view = { λ h. held_in h.rights.items };
+    ghost view = { λ h. held_in h.rights };
 
-    ghost invariant = { λ h. array_vec_len h.rights ≡ MOST_ENDPOINTS };
+    ghost invariant = { λ h. length h.rights ≡ MOST_ENDPOINTS };
 }
 
 impl Holders {
@@ -53,18 +40,16 @@ impl Holders {
     pub fn none() -> Holders
         ensures { result ≡ finite.empty }
     {
-        let mut rights = ArrayVec::new();
-        for _place in 0..MOST_ENDPOINTS {
-            rights.push(None);
+        Holders {
+            rights: [None; MOST_ENDPOINTS],
         }
-        Holders { rights }
     }
 
     /// Becomes the same as these.
     pub fn fill(&mut self, others: &Holders)
         ensures { self.new ≡ others.now }
     {
-        fill(&mut self.rights, others.rights.as_slice());
+        self.rights = others.rights;
     }
 
     /// The right that an endpoint holds.
@@ -72,7 +57,7 @@ impl Holders {
         ensures { result ≡ finite.get self.now endpoint.0 }
     {
         let place = endpoint.place();
-        if EndpointId::at(place) == endpoint && place < self.rights.len() {
+        if EndpointId::at(place) == endpoint && place < MOST_ENDPOINTS {
             self.rights[place]
         } else {
             None

@@ -1,6 +1,6 @@
 // SPDX-License-Identifier: MIT OR Apache-2.0
 //! Ranges of whole pages of RAM, as an open transaction keeps them.
-ghost use Rattle.std.specs.Prelude.{◌≡◌, ◌<◌, ◌≤◌, [], length, map, slice_index_or};
+ghost use Rattle.std.specs.Prelude.{◌≡◌, ◌<◌, ◌≤◌, [], length, map, take, slice_index_or};
 ghost use Rattle.ffa_model.specs.declared.limits.TheConstants.{MOST_RANGES};
 ghost use Rattle.ffa_memshare.specs.PageRanges.{range_at};
 ghost use Rattle.ffa_memshare.specs.Ranges.{ArePlaced, IsPlaced};
@@ -43,51 +43,59 @@ impl PageRange {
     }
 }
 
-// Fills a list, from its front on, with the ranges of a slice alone.
-fn fill(list: &mut ArrayVec<PageRange, MOST_RANGES>, ranges: &[PageRange])
+// Fills the first places with ranges. Later places keep what they had.
+fn fill(places: &mut [PageRange; MOST_RANGES], ranges: &[PageRange])
     requires { length ranges.now ≤ MOST_RANGES }
-    ensures { list.new.items ≡ ranges.now }
+    ensures ranges { take (length ranges.now) places.new ≡ ranges.now }
+    ensures many { length places.new ≡ MOST_RANGES }
 {
-    list.clear();
-    for range in ranges {
-        list.push(*range);
+    for place in 0..ranges.len() {
+        // Number by number, so that a compiler makes no call of memmove of a loop that mostly runs once.
+        places[place] = PageRange {
+            first: ranges[place].first,
+            pages: ranges[place].pages,
+        };
     }
 }
 
-// Fills a list, from its front on, with ranges of pages of the RAM at an address alone.
+// Fills the first places with ranges of pages of the RAM at an address.
 fn put<P: Room<KeptPage> + Drop>(
-    list: &mut ArrayVec<PageRange, MOST_RANGES>,
+    places: &mut [PageRange; MOST_RANGES],
     pages: &PageTable<P>,
     base: Address,
     ranges: &[Range],
 )
     requires placed { ArePlaced base.0 (length pages.now) ranges.now }
     requires few { length ranges.now ≤ MOST_RANGES }
-    ensures { map (range_at base.0) list.new.items ≡ ranges.now }
+    ensures ranges { map (range_at base.0) (take (length ranges.now) places.new) ≡ ranges.now }
+    ensures many { length places.new ≡ MOST_RANGES }
 {
-    list.clear();
-    for range in ranges {
-        list.push(PageRange::of(pages, base, range));
+    for place in 0..ranges.len() {
+        places[place] = PageRange::of(pages, base, &ranges[place]);
     }
 }
 
-/// Ranges of pages of one RAM, eight bytes for each: a transaction is small to keep and to move. Contracts
-/// see the ranges.
+/// Ranges of pages of one RAM, eight bytes for each: a transaction is small to keep and to move. Places after the last
+/// range keep what they had, so nothing is cleared. Contracts see the ranges.
 #[derive(Drop)]
 pub struct PageRanges {
     base: Address,
-    list: ArrayVec<PageRange, MOST_RANGES>,
+    count: usize,
+    places: [PageRange; MOST_RANGES],
 }
 
 impl Model for PageRanges {
-    ghost use Rattle.std.specs.Prelude.{List, map};
+    ghost use Rattle.std.specs.Prelude.{List, map, take, length, ◌≤◌, ◌≡◌};
     ghost use Rattle.std.specs.Coded.{coded_list};
+    ghost use Rattle.ffa_model.specs.declared.limits.TheConstants.{MOST_RANGES};
     ghost use Rattle.ffa_model.specs.declared.transaction.Range.{Range};
     ghost use Rattle.ffa_memshare.specs.PageRanges.{range_at};
 
     ghost Value = { List Range };
 
-    ghost view = { λ r. map (range_at r.base.0) r.list.items };
+    ghost view = { λ r. map (range_at r.base.0) (take r.count r.places) };
+
+    ghost invariant = { λ r. (r.count ≤ MOST_RANGES) × (length r.places ≡ MOST_RANGES) };
 }
 
 impl PageRanges {
@@ -102,7 +110,8 @@ impl PageRanges {
         ensures { self.new ≡ ranges.now.items }
     {
         self.base = base;
-        put(&mut self.list, pages, base, ranges.as_slice());
+        put(&mut self.places, pages, base, ranges.as_slice());
+        self.count = ranges.len();
     }
 
     // No ranges.
@@ -111,7 +120,8 @@ impl PageRanges {
     {
         PageRanges {
             base: Address(0),
-            list: ArrayVec::new(),
+            count: 0,
+            places: [PageRange::default(); MOST_RANGES],
         }
     }
 
@@ -120,21 +130,17 @@ impl PageRanges {
         ensures { self.new ≡ ranges.now }
     {
         self.base = ranges.base;
-        fill(&mut self.list, ranges.list.as_slice());
+        fill(&mut self.places, &ranges.places[..ranges.count]);
+        self.count = ranges.count;
     }
 
     /// The same ranges.
     pub(crate) fn copy(&self) -> PageRanges
         ensures { result ≡ self.now }
     {
-        let mut list = ArrayVec::new();
-        for range in self.list.as_slice() {
-            list.push(*range);
-        }
-        PageRanges {
-            base: self.base,
-            list,
-        }
+        let mut copy = PageRanges::none();
+        copy.fill(self);
+        copy
     }
 
     /// How many there are.
@@ -142,7 +148,7 @@ impl PageRanges {
         ensures count { result ≡ length self.now }
         ensures few { result ≤ MOST_RANGES }
     {
-        self.list.len()
+        self.count
     }
 
     /// The range at this place in their order, by its address.
@@ -150,7 +156,8 @@ impl PageRanges {
         requires { place < length self.now }
         ensures { (other : Range) → result ≡ slice_index_or self.now place other }
     {
-        self.list[place].range(self.base)
+        let ranges = &self.places[..self.count];
+        ranges[place].range(self.base)
     }
 
     /// Puts each range by its address, in their order, into an empty list. The list is the caller's, since it
@@ -159,7 +166,7 @@ impl PageRanges {
         requires { ranges.old.items ≡ [] }
         ensures { ranges.new.items ≡ self.now }
     {
-        for range in self.list.as_slice() {
+        for range in &self.places[..self.count] {
             ranges.push(range.range(self.base));
         }
     }

@@ -89,6 +89,7 @@ impl<'m, M: PhysMem> Bytes for PageRun<'m, M> {
 
 /// Puts what the bytes say as a send descriptor of this kind, for a machine of this FF-A and from a caller of this
 /// version, in the place of an offer; else the first condition that they break. In one page they are read as a slice.
+#[inline(always)]
 pub(crate) fn read_send<M: PhysMem>(
     bytes: &PageRun<M>,
     ffa: Ffa,
@@ -110,6 +111,7 @@ pub(crate) fn read_send<M: PhysMem>(
 
 /// What the bytes say as a retrieve descriptor for this endpoint, which has this version, on a machine of this FF-A; else a
 /// condition that they break.
+#[inline(always)]
 pub(crate) fn read_retrieve<M: PhysMem>(
     bytes: &PageRun<M>,
     ffa: Ffa,
@@ -143,6 +145,7 @@ pub(crate) fn names_receivers<M: PhysMem>(
 }
 
 /// What the bytes say as a relinquish descriptor of one endpoint; else a condition that they break.
+#[inline(always)]
 pub(crate) fn read_relinquish<M: PhysMem>(bytes: &PageRun<M>) -> Result<RelinquishDesc, Flaw>
     ensures computed { result_ok result ≡ relinquish_of bytes.now }
     ensures broken { IfErr result (RelinquishBreaks bytes.now) }

@@ -15,6 +15,7 @@ ghost use Rattle.ffa_memshare.specs.Retrieved.{IsReadBack, IsToldBack};
 ghost use Rattle.ffa_memshare.specs.Scenes.{descriptor_in};
 ghost use Rattle.ffa_memshare.specs.Shared.{IsShared};
 ghost use Rattle.ffa_memshare.specs.Stored.{pool_slot, transaction_in, view_of};
+ghost use Rattle.ffa_physmem.specs.Work.{AddsAtMost, loans_of};
 
 use crate::changed::Value;
 use crate::descriptor_call::DescriptorCall;
@@ -106,6 +107,7 @@ impl<O: Room<OpenSlot> + Drop> Pool<O> {
             IfOk result (IsReadBack (M.ram ram.old) (M.ram ram.new) buffers.old self.now caller bytes) }
         ensures steps { let own = buffers_in buffers.old caller.0 in
             Only (M.past ram.old) (M.past ram.new) (λ _ s. IsRxWriting (M.ram ram.old) own s) }
+        ensures few { AddsAtMost (M.past ram.old) (M.past ram.new) (loans_of 1) }
     {
         let found = self.check_read_back(ram, layout, pages, buffers, caller, call)?;
         let open = self.at(found.slot);

@@ -1,7 +1,7 @@
 // SPDX-License-Identifier: MIT OR Apache-2.0
 //! FFA_MEM_RECLAIM.
 ghost use Rattle.ffa_rxtx.specs.Parts.{ownership_in};
-ghost use Rattle.std.specs.Prelude.{◌≡◌, ◌==◌, None, Some, IfOk, OnOk, OnErr};
+ghost use Rattle.std.specs.Prelude.{◌≡◌, ◌==◌, None, Some, IfOk, OnOk, OnErr, ℕ, Option};
 ghost use Rattle.std.specs.Result.{result_err};
 ghost use Rattle.ffa_model.specs.Calls.{first_failure};
 ghost use Rattle.ffa_model.specs.Identifiers.{place};
@@ -17,6 +17,10 @@ ghost use Rattle.ffa_memshare.specs.Shared.{IsShared};
 ghost use Rattle.ffa_memshare.specs.SlotChanges.{IsClosed};
 ghost use Rattle.ffa_memshare.specs.Steps.{EndsSettledFor, OnlyMomentsFor};
 ghost use Rattle.ffa_memshare.specs.Stored.{open_in, transaction_in};
+ghost use Rattle.ffa_physmem.specs.Work.{AddsAtMost};
+ghost use Rattle.ffa_memshare.specs.Work.{LosesNone, given_work};
+ghost use Rattle.ffa_stage2.specs.Layout.{IsBuiltFor};
+ghost use Rattle.ffa_model.specs.declared.rights.Rights.{Rights};
 
 use crate::changed::{News, Value, changed_sender};
 use crate::marks::Mark;
@@ -66,6 +70,10 @@ impl<O: Room<OpenSlot> + Drop> Pool<O> {
             OnOk result (IsMovedFor layout.now (M.ram ram.old) (M.ram ram.new) (place caller.0) named right zero) }
         ensures steps { OnlyMomentsFor layout.now (M.ram ram.old) (M.ram ram.new) (M.past ram.old) (M.past ram.new) }
         ensures ended { EndsSettledFor layout.now (M.ram ram.old) (M.ram ram.new) (M.past ram.new) }
+        ensures few { let base = layout.now.base.0 in let ranges = named_ranges (transaction_in self.old.slots handle.0) in
+            (access : ℕ → ℕ → Option Rights) → IsBuiltFor layout.now (M.ram ram.old) access
+            → LosesNone (access (place caller.0)) (in_ranges base ranges) (own_right_at pages.old)
+            → AddsAtMost (M.past ram.old) (M.past ram.new) (given_work base None ranges (flags == 1)) }
         ensures pages { let ranges = named_ranges (transaction_in self.old.slots handle.0) in
             let named = in_ranges layout.now.base.0 ranges in
             OnOk result (IsMarked pages.old pages.new named (Mark.Named None)) }

@@ -1,6 +1,6 @@
 // SPDX-License-Identifier: MIT OR Apache-2.0
 //! FFA_MEM_RELINQUISH.
-ghost use Rattle.std.specs.Prelude.{◌≡◌, length, IfOk, OnOk, OnErr};
+ghost use Rattle.std.specs.Prelude.{◌≡◌, length, IfOk, OnOk, OnErr, ℕ, Bool, None, Option, Some};
 ghost use Rattle.std.specs.Result.{result_err};
 ghost use Rattle.ffa_model.specs.Buffers.{buffers_in};
 ghost use Rattle.ffa_model.specs.Calls.{first_failure};
@@ -13,7 +13,15 @@ ghost use Rattle.ffa_memshare.specs.Memory.{memory_of, memory_parts};
 ghost use Rattle.ffa_memshare.specs.Relinquished.{IsRelinquished};
 ghost use Rattle.ffa_memshare.specs.Shared.{IsShared};
 ghost use Rattle.ffa_memshare.specs.Steps.{EndsSettledFor, OnlyMomentsFor};
-ghost use Rattle.ffa_memshare.specs.Stored.{open_in};
+ghost use Rattle.ffa_memshare.specs.Stored.{open_in, transaction_in};
+ghost use Rattle.ffa_physmem.specs.Work.{AddsAtMost};
+ghost use Rattle.ffa_memshare.specs.Work.{AreSplitsIn, taken_work};
+ghost use Rattle.ffa_stage2.specs.Layout.{IsBuiltFor};
+ghost use Rattle.ffa_model.specs.declared.rights.Rights.{Rights};
+ghost use Rattle.ffa_model.specs.Identifiers.{place};
+ghost use Rattle.ffa_model.specs.declared.descriptor.RelinquishDesc.{RelinquishDesc};
+ghost use Rattle.ffa_model.specs.State.{Transaction};
+ghost use Rattle.ffa_memshare.specs.Ranges.{in_ranges};
 
 use crate::changed::{News, Value};
 use crate::grants::NewRight;
@@ -63,6 +71,12 @@ impl<O: Room<OpenSlot> + Drop> Pool<O> {
             OnOk result (IsRelinquished before after caller.0 bytes news.new) }
         ensures steps { OnlyMomentsFor layout.now (M.ram ram.old) (M.ram ram.new) (M.past ram.old) (M.past ram.new) }
         ensures ended { EndsSettledFor layout.now (M.ram ram.old) (M.ram ram.new) (M.past ram.new) }
+        ensures few { let base = layout.now.base.0 in let bytes = tx_in (M.ram ram.old) (buffers_in buffers.now caller.0) in
+            (asked : RelinquishDesc) (t : Transaction) (access : ℕ → ℕ → Option Rights) (split : ℕ → Bool)
+            → relinquish_of bytes ≡ Some asked → transaction_in self.old.slots asked.handle ≡ Some t
+            → IsBuiltFor layout.now (M.ram ram.old) access
+            → AreSplitsIn (access (place caller.0)) (in_ranges base t.ranges) None split
+            → AddsAtMost (M.past ram.old) (M.past ram.new) (taken_work base split t.ranges asked.zero) }
     {
         let found = self.check_relinquish(ram, buffers, caller)?;
         let open = self.at(found.slot);

@@ -7,6 +7,7 @@ ghost use Rattle.ffa_model.specs.ResponseBytes.{response_bytes, response_record,
 ghost use Rattle.ffa_model.specs.SendDescriptor.{page_total};
 ghost use Rattle.ffa_model.specs.State.{is_known_among};
 ghost use Rattle.ffa_physmem.specs.Moments.{Only};
+ghost use Rattle.ffa_physmem.specs.Work.{AddsAtMost, loans_of};
 ghost use Rattle.ffa_rxtx.specs.Parts.{IsBesideRx, IsInRam, IsRxWriting, with_rx_bytes};
 ghost use Rattle.ffa_rxtx.specs.Stored.{buffers_of};
 
@@ -36,6 +37,7 @@ pub fn deliver<M: PhysMem>(
     ensures beside { IsBesideRx (M.ram ram.old) (M.ram ram.new) (buffers_in buffers.old endpoint.0) }
     ensures steps { let own = buffers_in buffers.old endpoint.0 in
         Only (M.past ram.old) (M.past ram.new) (λ _ s. IsRxWriting (M.ram ram.old) own s) }
+    ensures few { AddsAtMost (M.past ram.old) (M.past ram.new) (loans_of 1) }
 {
     // Proof step: the ranges are `MOST_RANGES` at most.
     let _ = response.ranges.as_slice();
@@ -64,6 +66,7 @@ pub fn deliver_sent<M: PhysMem>(
     ensures full { buffers.new ≡ buffers_with_rx buffers.old endpoint.0 true }
     ensures steps { let own = buffers_in buffers.old endpoint.0 in
         Only (M.past ram.old) (M.past ram.new) (λ _ s. IsRxWriting (M.ram ram.old) own s) }
+    ensures few { AddsAtMost (M.past ram.old) (M.past ram.new) (loans_of 1) }
 {
     // Proof step: the ranges are `MOST_RANGES` at most, and the receivers `MOST_RECEIVERS`.
     let _ = sent.ranges.as_slice();

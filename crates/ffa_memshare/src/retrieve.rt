@@ -1,12 +1,12 @@
 // SPDX-License-Identifier: MIT OR Apache-2.0
 //! FFA_MEM_RETRIEVE_REQ.
-ghost use Rattle.std.specs.Prelude.{ℕ, ◌≡◌, ◌≢◌, ◌<◌, length, true, is_some, Some, IfOk, OnOk, OnErr};
+ghost use Rattle.std.specs.Prelude.{ℕ, ◌≡◌, ◌≢◌, ◌<◌, length, true, is_some, Some, IfOk, OnOk, OnErr, Option};
 ghost use Rattle.std.specs.Result.{result_err};
 ghost use Rattle.ffa_model.specs.declared.limits.TheConstants.{MOST_ENDPOINTS};
 ghost use Rattle.ffa_model.specs.Buffers.{buffers_in, buffers_with_rx};
 ghost use Rattle.ffa_model.specs.Calls.{first_failure};
 ghost use Rattle.ffa_model.specs.Identifiers.{identifier, manager, place};
-ghost use Rattle.ffa_model.specs.MemoryRetrieve.{response_to, retrieve_guards, taken_in};
+ghost use Rattle.ffa_model.specs.MemoryRetrieve.{response_to, retrieve_guards, taken_in, right_for};
 ghost use Rattle.ffa_model.specs.RetrieveDescriptor.{endpoints_named, retrieve_of};
 ghost use Rattle.ffa_model.specs.State.{Transaction};
 ghost use Rattle.ffa_pages.specs.Entry.{owner_at};
@@ -19,7 +19,13 @@ ghost use Rattle.ffa_memshare.specs.Retrieved.{IsPassedOn, IsResponded, IsRetrie
 ghost use Rattle.ffa_memshare.specs.Scenes.{descriptor_in, scene_in};
 ghost use Rattle.ffa_memshare.specs.Shared.{IsHeld, IsShared};
 ghost use Rattle.ffa_memshare.specs.Steps.{EndsSettledFor, OnlyMomentsFor};
-ghost use Rattle.ffa_memshare.specs.Stored.{open_in, pool_slot, view_of};
+ghost use Rattle.ffa_memshare.specs.Stored.{open_in, pool_slot, view_of, transaction_in};
+ghost use Rattle.ffa_physmem.specs.Work.{AddsAtMost};
+ghost use Rattle.ffa_memshare.specs.Work.{LosesNone, retrieved_work};
+ghost use Rattle.ffa_stage2.specs.Layout.{IsBuiltFor};
+ghost use Rattle.ffa_model.specs.declared.rights.Rights.{Rights as Right};
+ghost use Rattle.ffa_model.specs.declared.descriptor.RetrieveDesc.{RetrieveDesc};
+ghost use Rattle.ffa_rxtx.specs.Parts.{ownership_in};
 
 use crate::changed::{News, Value};
 use crate::descriptor_call::DescriptorCall;
@@ -31,7 +37,6 @@ use crate::page_changes::change_pages;
 use crate::pool::Pool;
 use crate::respond::deliver;
 use crate::transaction::OpenTransaction;
-use arrayvec::ArrayVec;
 use ffa_model::{Address, EndpointId, ErrorCode, Kind, Response, Rights, Room, Version};
 use ffa_pages::{KeptPage, PageTable};
 use ffa_physmem::PhysMem;
@@ -83,11 +88,22 @@ impl<O: Room<OpenSlot> + Drop> Pool<O> {
         ensures ended { let before = memory_parts (M.ram ram.old) layout.now pages.old buffers.old self.old in
             IsRxApartOfOpen before caller.0
             → EndsSettledFor layout.now (M.ram ram.old) (M.ram ram.new) (M.past ram.new) }
+        ensures few { let base = layout.now.base.0 in
+            let bytes = descriptor_in (M.ram ram.old) buffers.old caller.0 call.now in
+            (asked : RetrieveDesc) (t : Transaction) (access : ℕ → ℕ → Option Right)
+            → retrieve_of call.now.ffa caller.0 bytes ≡ Some asked → transaction_in self.old.slots asked.handle ≡ Some t
+            → IsBuiltFor layout.now (M.ram ram.old) access
+            → let right = right_for (ownership_in pages.old base) t caller.0 asked in
+            LosesNone (access (place caller.0)) (in_ranges base t.ranges) (λ _. Some right)
+            → AddsAtMost (M.past ram.old) (M.past ram.new) (retrieved_work base right t.ranges) }
     {
         let found = self.check_retrieve(ram, layout, pages, buffers, caller, call)?;
         let open = self.at(found.slot);
         let version = call.version;
-        let size = open.hand_over(ram, layout, pages, buffers, caller, version, &found);
+        let response = &mut news.draft.response;
+        let size = open.hand_over(
+            ram, layout, pages, buffers, caller, version, &found, response,
+        );
         news.told.tell(&open.ranges, Some(caller));
         self.take(pages, layout.base, found.slot, caller, found.right);
         Ok(Value::Size(size))
@@ -131,7 +147,7 @@ impl<O: Room<OpenSlot> + Drop> Pool<O> {
 
 impl OpenTransaction {
     // Gives an endpoint the right that was found to the pages, and tells the endpoint so in its RX, in its
-    // version. RX is full then. It answers how many bytes that takes.
+    // version. RX is full then. It answers how many bytes that takes. The response is filled in where it stands.
     fn hand_over<M: PhysMem, P: Room<KeptPage> + Drop>(
         &self,
         ram: &mut M,
@@ -141,6 +157,7 @@ impl OpenTransaction {
         caller: EndpointId,
         version: Version,
         found: &FoundRight,
+        response: &mut Response,
     ) -> u32
         requires held { IsHeld (memory_of (M.ram ram.old) layout.now pages.now) (view_of self.now) }
         requires caller { IsCaller (memory_of (M.ram ram.old) layout.now pages.now) buffers.old caller.0 }
@@ -155,25 +172,27 @@ impl OpenTransaction {
         ensures ended { let before = memory_of (M.ram ram.old) layout.now pages.now in
             IsRxApart before (buffers_in buffers.old caller.0) (in_ranges layout.now.base.0 self.now.ranges)
             → EndsSettledFor layout.now (M.ram ram.old) (M.ram ram.new) (M.past ram.new) }
+        ensures few { (access : ℕ → ℕ → Option Right) → IsBuiltFor layout.now (M.ram ram.old) access
+            → LosesNone (access (place caller.0)) (in_ranges layout.now.base.0 self.now.ranges) (λ _. Some found.now.right)
+            → AddsAtMost (M.past ram.old) (M.past ram.new) (retrieved_work layout.now.base.0 found.now.right self.now.ranges) }
     {
         // Proof step: the ranges are `MOST_RANGES` at most.
         let _ = self.ranges.len();
         let index = caller.place();
         let to_caller = NewRight::Same(Some(found.right));
         change_pages(ram, layout, pages, &self.ranges, index, to_caller, false);
-        // It stands here, since it is large to move.
-        let mut response = Response {
-            sender: self.sender,
-            kind: self.kind,
-            zero: self.zero,
-            normal: self.normal,
-            handle: self.handle,
-            tag: self.tag,
-            endpoint: caller,
-            rights: found.right,
-            ranges: ArrayVec::new(),
-        };
+        response.sender = self.sender;
+        response.kind = self.kind;
+        response.zero = self.zero;
+        response.normal = self.normal;
+        response.handle = self.handle;
+        response.tag = self.tag;
+        response.endpoint = caller;
+        response.rights = found.right;
+        response.ranges.clear();
         self.ranges.list_in(&mut response.ranges);
-        deliver(ram, buffers, caller, found.own, version, &response)
+        let size = deliver(ram, buffers, caller, found.own, version, response);
+        response.ranges.clear();
+        size
     }
 }

@@ -1,14 +1,14 @@
 // SPDX-License-Identifier: MIT OR Apache-2.0
 //! FFA_MEM_DONATE, FFA_MEM_LEND and FFA_MEM_SHARE.
-ghost use Rattle.std.specs.Prelude.{◌≤◌, ◌≡◌, ◌<◌, ℕ, length, None, IfOk, OnOk, OnErr};
+ghost use Rattle.std.specs.Prelude.{◌≤◌, ◌≡◌, ◌<◌, ℕ, length, None, IfOk, OnOk, OnErr, Bool, Option, Some};
 ghost use Rattle.std.specs.Result.{result_err};
 ghost use Rattle.arrayvec.specs.ArrayVec.{array_vec_len};
 ghost use Rattle.ffa_model.specs.Calls.{first_failure};
 ghost use Rattle.ffa_model.specs.MemorySend.{send_guards};
-ghost use Rattle.ffa_model.specs.SendDescriptor.{send_of};
+ghost use Rattle.ffa_model.specs.SendDescriptor.{send_of, SendRecord};
 ghost use Rattle.ffa_model.specs.Transactions.{next_handle};
 ghost use Rattle.ffa_physmem.specs.Moments.{Only};
-ghost use Rattle.ffa_pages.specs.Entry.{entry_at};
+ghost use Rattle.ffa_pages.specs.Entry.{entry_at, own_right_at};
 ghost use Rattle.ffa_stage2.specs.Tables.{table_page};
 ghost use Rattle.ffa_memshare.specs.Callers.{IsCaller};
 ghost use Rattle.ffa_memshare.specs.Memory.{memory_of, memory_parts};
@@ -17,6 +17,12 @@ ghost use Rattle.ffa_memshare.specs.Sent.{IsSent};
 ghost use Rattle.ffa_memshare.specs.Shared.{IsRoom};
 ghost use Rattle.ffa_memshare.specs.Steps.{EndsSettledFor, OnlyMomentsFor};
 ghost use Rattle.ffa_memshare.specs.Stored.{open_in};
+ghost use Rattle.ffa_physmem.specs.Work.{AddsAtMost};
+ghost use Rattle.ffa_memshare.specs.Work.{IsTakenFrom, sent_work};
+ghost use Rattle.ffa_stage2.specs.Layout.{IsBuiltFor};
+ghost use Rattle.ffa_model.specs.declared.rights.Rights.{Rights};
+ghost use Rattle.ffa_model.specs.Identifiers.{place};
+ghost use Rattle.ffa_memshare.specs.Ranges.{in_ranges};
 
 use crate::changed::{News, Value, changed_sender};
 use crate::descriptor_call::DescriptorCall;
@@ -78,9 +84,18 @@ impl<O: Room<OpenSlot> + Drop> Pool<O> {
         // those from behind.
         ensures steps { OnlyMomentsFor layout.now (M.ram ram.old) (M.ram ram.new) (M.past ram.old) (M.past ram.new) }
         ensures ended { EndsSettledFor layout.now (M.ram ram.old) (M.ram ram.new) (M.past ram.new) }
+
+        // The work is what the ranges take that the descriptor names.
+        ensures few { let base = layout.now.base.0 in let bytes = descriptor_in (M.ram ram.old) buffers.now caller.0 call.now in
+            (offer : SendRecord) (access : ℕ → ℕ → Option Rights) (split : ℕ → Bool)
+            → send_of call.now.ffa kind bytes ≡ Some offer → IsBuiltFor layout.now (M.ram ram.old) access
+            → IsTakenFrom kind (access (place caller.0)) (in_ranges base offer.ranges) (own_right_at pages.old) split
+            → AddsAtMost (M.past ram.old) (M.past ram.new) (sent_work kind base split offer.ranges offer.zero) }
     {
         let draft = &mut news.draft;
-        let slot = self.check_send(ram, layout, pages, buffers, caller, kind, call, draft)?;
+        let checked = self.check_send(ram, layout, pages, buffers, caller, kind, call, draft);
+        news.draft.clear_offer();
+        let slot = checked?;
         let transaction = &news.draft.transaction;
         let handle = transaction.handle;
         transaction.take_pages(ram, layout, pages, slot as SlotNumber);

@@ -2,6 +2,7 @@
 //! What translation units may hold no more once rights have ended.
 ghost use Rattle.std.specs.Prelude.{ℕ, ◌≡◌, true, List, Some, length};
 ghost use Rattle.ffa_physmem.specs.Moments.{IsSettledBy, Only, Step};
+ghost use Rattle.ffa_physmem.specs.Work.{AddsAtMost, settles_of};
 ghost use Rattle.ffa_memshare.specs.Ranges.{ArePlaced, in_ranges};
 
 use crate::grants::first_page;
@@ -18,6 +19,7 @@ pub fn settle<M: PhysMem>(ram: &mut M, ranges: &PageRanges, index: usize)
         → (M.past ram.new).steps ≡ Some h
         → in_ranges (M.ram ram.old).base ranges.now p ≡ true
         → IsSettledBy begin end index p h }
+    ensures few { AddsAtMost (M.past ram.old) (M.past ram.new) (settles_of (length ranges.now)) }
 {
     for place in 0..ranges.len() {
         let range = ranges.at(place);

@@ -1,7 +1,7 @@
 // SPDX-License-Identifier: MIT OR Apache-2.0
 //! One open transaction.
 ghost use Rattle.ffa_rxtx.specs.Parts.{ownership_in};
-ghost use Rattle.std.specs.Prelude.{◌≡◌, ◌==◌, [], length, find, Some, None};
+ghost use Rattle.std.specs.Prelude.{◌≡◌, ◌==◌, [], length, find, Some, None, ℕ, Bool, Option};
 ghost use Rattle.ffa_model.specs.declared.transaction.Receiver.{Receiver as Named};
 ghost use Rattle.ffa_model.specs.Access.{held_by, is_receiver, right_by};
 ghost use Rattle.ffa_model.specs.Identifiers.{place};
@@ -18,6 +18,10 @@ ghost use Rattle.ffa_memshare.specs.Grants.{new_right};
 ghost use Rattle.ffa_memshare.specs.Sent.{right_after};
 ghost use Rattle.ffa_memshare.specs.Shared.{IsHeld};
 ghost use Rattle.ffa_memshare.specs.Steps.{EndsSettledFor, OnlyMomentsFor};
+ghost use Rattle.ffa_physmem.specs.Work.{AddsAtMost};
+ghost use Rattle.ffa_memshare.specs.Work.{IsTakenFrom, LosesNone, given_work, sent_work};
+ghost use Rattle.ffa_stage2.specs.Layout.{IsBuiltFor};
+ghost use Rattle.ffa_model.specs.declared.rights.Rights.{Rights as Right};
 
 use crate::common::{Common, common_of};
 use crate::grants::NewRight;
@@ -182,6 +186,10 @@ impl OpenTransaction {
         ensures ended { EndsSettledFor layout.now (M.ram ram.old) (M.ram ram.new) (M.past ram.new) }
         ensures marked { let named = in_ranges layout.now.base.0 self.now.ranges in
             IsMarked pages.old pages.new named (Mark.Named None) }
+        ensures few { let named = in_ranges layout.now.base.0 self.now.ranges in
+            (access : ℕ → ℕ → Option Right) → IsBuiltFor layout.now (M.ram ram.old) access
+            → LosesNone (access (place self.now.sender.0)) named (own_right_at pages.old)
+            → AddsAtMost (M.past ram.old) (M.past ram.new) (given_work layout.now.base.0 None self.now.ranges zero) }
     {
         let ranges = &self.ranges;
         let index = self.sender.place();
@@ -206,6 +214,11 @@ impl OpenTransaction {
         ensures ended { EndsSettledFor layout.now (M.ram ram.old) (M.ram ram.new) (M.past ram.new) }
         ensures marked { let named = in_ranges layout.now.base.0 self.now.ranges in
             IsMarked pages.old pages.new named (Mark.Named (Some slot)) }
+        ensures few { let named = in_ranges layout.now.base.0 self.now.ranges in
+            (access : ℕ → ℕ → Option Right) (split : ℕ → Bool) → IsBuiltFor layout.now (M.ram ram.old) access
+            → IsTakenFrom self.now.kind (access (place self.now.sender.0)) named (own_right_at pages.old) split
+            → AddsAtMost (M.past ram.old) (M.past ram.new)
+            (sent_work self.now.kind layout.now.base.0 split self.now.ranges self.now.zero) }
     {
         let ranges = &self.ranges;
         let index = self.sender.place();

@@ -10,7 +10,7 @@ pub use allowed::Allowed;
 pub use explained::Explained;
 use ffa_model::{EndpointId, Kind, Rights, Version, Work};
 
-/// What a machine tells of an operation that is refused, beside why it is.
+/// A fact that a machine reports of a refused operation, besides the reason.
 #[derive(Clone, Copy)]
 pub enum Mend {
     /// The page is in this buffer of an endpoint.
@@ -20,63 +20,64 @@ pub enum Mend {
     },
     /// The owner's own right to the page.
     OwnRight(Rights),
-    /// The owner's own right to the page, to which more is granted: to read and write.
+    /// The owner's own right to the page, to which the call grants more: to read and write.
     Granted(Rights),
-    /// What an endpoint may do at the address.
+    /// The right of an endpoint at the address.
     Access {
         endpoint: EndpointId,
         right: Rights,
     },
-    /// The caller, where another endpoint is named.
+    /// The caller, if the call names another endpoint.
     Caller(EndpointId),
-    /// The transaction's sender, where another endpoint is named, or is the caller.
+    /// The sender of the transaction, if the call names another endpoint, or if another endpoint is the caller.
     Sender(EndpointId),
-    /// The tag that is named, and the transaction's.
+    /// The tag that the call names, and the tag of the transaction.
     Tag {
         found: u64,
         wanted: u64,
     },
-    /// The kind that is named, and the transaction's.
+    /// The kind that the call names, and the kind of the transaction.
     Kind {
         found: Kind,
         wanted: Kind,
     },
-    /// The right that is asked for, and the most that the caller may get.
+    /// The right that the call requests, and the most that the caller may get.
     Asked {
         asked: Rights,
         most: Rights,
     },
     /// The right by which the caller holds the transaction.
     Held(Rights),
-    /// How many bytes the buffer has.
+    /// The number of bytes of the buffer.
     Room(u64),
-    /// The one value that the register may have.
+    /// The only value that the register may have.
     Wanted(u64),
-    /// The caller and its version, where a header has the form of another.
+    /// The caller and its version, if a header has the form of another version.
     Form {
         caller: EndpointId,
         version: Version,
     },
-    /// A word of a message's header, by the place of its first byte, and the number in it.
+    /// A word of a message's header: the place of its first byte, and the number in it.
     Word {
         place: u32,
         value: u32,
     },
-    /// Where a message begins in its buffer and how many bytes it has, by its header, and how many the buffer has.
+    /// The place at which a message begins in its buffer, and its number of bytes, both by its header, and the number
+    /// of bytes of the buffer.
     Message {
         offset: u32,
         size: u32,
         room: u64,
     },
-    /// The address of the first page of a range or a buffer that isn't a page of RAM.
+    /// The address of the first page of a range or a buffer that is not a page of RAM.
     Outside(u64),
     /// The first receiver that holds the transaction.
     Holder(EndpointId),
-    /// What the caller works on.
+    /// The work of the caller.
     Works(Work),
-    /// The least bit that is pending.
+    /// The lowest bit that is pending.
     Pending(u32),
-    /// Which of two causes the check has.
+    /// The one of two causes that the check has.
     Cause(Cause),
 }
 
@@ -87,7 +88,7 @@ pub enum Side {
     Rx,
 }
 
-/// Which of two causes a check has.
+/// The one of two causes that a check has.
 #[derive(Clone, Copy, PartialEq, Eq)]
 pub enum Cause {
     /// The caller has no buffers.
@@ -98,15 +99,15 @@ pub enum Cause {
     BitPending,
     /// Another sender has the bit.
     BitTaken,
-    /// The sender doesn't have the bit.
+    /// The sender does not have the bit.
     BitUnbound,
     /// No open transaction has the handle.
     HandleUnknown,
-    /// The caller is no receiver of the transaction.
+    /// The caller is not a receiver of the transaction.
     NotReceiver,
-    /// The transaction is no lend.
+    /// The transaction is not a lend.
     NotLent,
-    /// The normal world has made no bitmaps.
+    /// The normal world has created no bitmaps.
     BitmapsUncreated,
     /// The manifest gives the partition no notifications.
     NotificationsUnreceived,

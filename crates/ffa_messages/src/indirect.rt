@@ -1,6 +1,6 @@
 // SPDX-License-Identifier: MIT OR Apache-2.0
 //! Indirect messages (DEN0077A, 7.1 and 15).
-ghost use Rattle.std.specs.Prelude.{◌≡◌, ◌+◌, ◌*◌, ◌≤◌, length, map, take, true, is_some, Some, OnOk, OnErr, IfOk, IsSomeAnd};
+ghost use Rattle.std.specs.Prelude.{◌≡◌, ◌+◌, ◌*◌, ◌/◌, ◌≤◌, length, map, take, true, is_some, Some, OnOk, OnErr, IfOk, IsSomeAnd};
 ghost use Rattle.std.specs.Result.{result_err};
 ghost use Rattle.ffa_model.specs.Buffers.{buffers_in, buffers_with_rx, room_of};
 ghost use Rattle.ffa_model.specs.Calls.{first_failure};
@@ -10,9 +10,10 @@ ghost use Rattle.ffa_model.specs.Ram.{number_in, page_of};
 ghost use Rattle.ffa_model.specs.State.{is_known_among};
 ghost use Rattle.ffa_model.specs.Lists.{is_in_run};
 ghost use Rattle.ffa_physmem.specs.Moments.{IsWriting, Only};
+ghost use Rattle.ffa_physmem.specs.Work.{AddsAtMost, loans_of};
 ghost use Rattle.ffa_rxtx.specs.Parts.{IsInRam, IsRxWriting, run_in, with_run, with_rx_bytes};
 ghost use Rattle.ffa_rxtx.specs.Stored.{buffers_of};
-ghost use Rattle.ffa_messages.specs.Parts.{AreEndsApart, AreInRam, IsBeside, header_of, receiver_in, sent_in};
+ghost use Rattle.ffa_messages.specs.Parts.{AreEndsApart, AreInRam, IsBeside, header_of, receiver_in, sent_in, size_in};
 
 use crate::checks::check_send2;
 use byteorder::{ByteOrder, LittleEndian};
@@ -107,6 +108,7 @@ pub fn send2<M: PhysMem>(
         ≡ buffers_with_rx buffers.old (receiver_in (M.ram ram.old) buffers.old caller.0) true) }
     ensures steps { Only (M.past ram.old) (M.past ram.new) (λ _ s.
         IsRxWriting (M.ram ram.old) (buffers_in buffers.old (receiver_in (M.ram ram.old) buffers.old caller.0)) s) }
+    ensures few { AddsAtMost (M.past ram.old) (M.past ram.new) (loans_of ((size_in (M.ram ram.old) buffers.old caller.0 + 4095) / 4096)) }
 {
     let message = check_send2(ram, buffers, manifest, version, caller)?;
     deliver(ram, buffers, &message.from, message.receiver, message.size);
@@ -141,6 +143,7 @@ fn deliver<M: PhysMem>(
     ensures full { buffers.new ≡ buffers_with_rx buffers.old receiver.0 true }
     ensures steps { Only (M.past ram.old) (M.past ram.new) (λ _ s.
         IsRxWriting (M.ram ram.old) (buffers_in buffers.old receiver.0) s) }
+    ensures few { AddsAtMost (M.past ram.old) (M.past ram.new) (loans_of ((size + 4095) / 4096)) }
 {
     match buffers.of(receiver) {
         Some(to) => {
@@ -163,6 +166,7 @@ fn copy_run<M: PhysMem>(ram: &mut M, from: &Mapped, to: &Mapped, size: usize)
         (take size (run_in (M.ram ram.old) from.now.tx.0 from.now.pages)) }
     ensures steps { Only (M.past ram.old) (M.past ram.new) (λ _ s.
         IsWriting (M.ram ram.old) (is_in_run to.now.rx.0 to.now.pages) s) }
+    ensures few { AddsAtMost (M.past ram.old) (M.past ram.new) (loans_of ((size + 4095) / 4096)) }
 {
     // Proof step: the number of pages fits a u32.
     let _ = ram.pages();

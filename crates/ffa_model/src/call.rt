@@ -1,36 +1,39 @@
 // SPDX-License-Identifier: MIT OR Apache-2.0
-//! Calls and what they answer, before they stand in registers.
+//! Calls as the core reads them from registers, and their answers before the core writes them to registers.
 
 use crate::endpoint::EndpointId;
 use crate::operation::ErrorCode;
 use crate::transaction::Handle;
 
-/// The registers of a call whose descriptor stands in TX (DEN0077A, 16.1).
+/// The arguments of a call whose descriptor is in TX (DEN0077A, 16.1).
 #[derive(Clone, Copy)]
 pub struct Transfer {
-    /// How many bytes the descriptor has.
+    /// The length of the descriptor in bytes.
     pub total: u32,
-    /// How many of them stand in TX.
+    /// The number of bytes of the descriptor that are in TX.
     pub fragment: u32,
-    /// The address of a buffer beside TX.
+    /// The address of a buffer other than TX.
     pub address: u64,
-    /// How many pages that buffer has.
+    /// The number of pages of the buffer at `address`.
     pub pages: u32,
 }
 
-/// A direct message (DEN0077A, 15.2 and 15.3): a request or a response, by the identifier of either form.
+/// A direct message, which is a request or a response (DEN0077A, 15.2 and 15.3). Its function identifier says which,
+/// and in which of the two forms.
 #[derive(Clone, Copy, PartialEq, Eq)]
 pub struct DirectMessage {
-    /// The identifier of the call.
+    /// The function identifier of the call.
     pub function: u32,
     pub sender: EndpointId,
     pub receiver: EndpointId,
     pub flags: u32,
-    /// What stands in x3 to x7.
+    /// The values of x3 to x7.
     pub payload: [u64; 5],
 }
 
-/// Notifications of a receiver that a sender may set, may set no more, or sets (DEN0077A, 16.5 to 16.7).
+/// The notifications that FFA_NOTIFICATION_BIND, FFA_NOTIFICATION_UNBIND or FFA_NOTIFICATION_SET names (DEN0077A, 16.5
+/// to 16.7). They are notifications of the receiver. By the call the sender may set them, may no longer set them, or
+/// sets them.
 #[derive(Clone, Copy, PartialEq, Eq)]
 pub struct NotificationBits {
     pub sender: EndpointId,
@@ -40,8 +43,8 @@ pub struct NotificationBits {
     pub bitmap: u64,
 }
 
-/// A call with its arguments (DEN0077A, 11 to 16), each as the standard names it. An argument that the 64-bit form of a call
-/// widens is a `u64`.
+/// A call with its arguments, which have the standard's names (DEN0077A, 11 to 16). An argument is a `u64` if the
+/// 64-bit form of the call widens it.
 #[derive(Clone, Copy)]
 pub enum Call {
     /// FFA_VERSION.
@@ -54,7 +57,7 @@ pub enum Call {
     },
     /// FFA_RX_RELEASE.
     RxRelease,
-    /// FFA_RXTX_MAP: the addresses of TX and RX, and their page count.
+    /// FFA_RXTX_MAP: the address of TX, the address of RX, and the number of pages that each has.
     RxtxMap {
         tx: u64,
         rx: u64,
@@ -64,7 +67,7 @@ pub enum Call {
     RxtxUnmap {
         endpoint: u32,
     },
-    /// FFA_PARTITION_INFO_GET: the UUID's bytes, four in a word, the lowest first.
+    /// FFA_PARTITION_INFO_GET: the UUID with four bytes in each word, whose first byte is the lowest, and the flags.
     PartitionInfoGet {
         uuid: [u32; 4],
         flags: u32,
@@ -77,7 +80,7 @@ pub enum Call {
     },
     /// FFA_YIELD.
     Yield,
-    /// FFA_RUN: the partition that is given cycles, and which of its execution contexts.
+    /// FFA_RUN: the partition that gets cycles, and the number of its execution context.
     Run {
         target: EndpointId,
         context: u16,
@@ -116,13 +119,13 @@ pub enum Call {
     NotificationUnbind(NotificationBits),
     /// FFA_NOTIFICATION_SET.
     NotificationSet(NotificationBits),
-    /// FFA_NOTIFICATION_GET: the receiver, and which of its execution contexts.
+    /// FFA_NOTIFICATION_GET: the receiver, the number of its execution context, and the flags.
     NotificationGet {
         receiver: EndpointId,
         context: u16,
         flags: u32,
     },
-    /// FFA_NOTIFICATION_INFO_GET, in the form whose answer fills 64-bit registers, or in the other.
+    /// FFA_NOTIFICATION_INFO_GET. `is_wide` is true for the 64-bit form, whose answer uses 64-bit registers.
     NotificationInfoGet {
         is_wide: bool,
     },
@@ -130,25 +133,25 @@ pub enum Call {
     SpmIdGet,
     /// FFA_MSG_SEND2.
     MsgSend2,
-    /// What is no call.
+    /// A function identifier that belongs to no call.
     Unknown,
 }
 
-/// What a call answers.
+/// The answer to a call, or what the endpoint that runs next sees of the call.
 #[derive(Clone, Copy, PartialEq, Eq)]
 pub enum Reply {
-    /// FFA_VERSION's own answer, in w0 alone.
+    /// The answer to FFA_VERSION, in w0 only.
     Version(u32),
     /// FFA_ERROR.
     Error(ErrorCode),
     /// FFA_SUCCESS, with w2 to w7.
     Success([u32; 6]),
-    /// FFA_SUCCESS of the 64-bit form, with x2 to x7.
+    /// FFA_SUCCESS in its 64-bit form, with x2 to x7.
     WideSuccess([u64; 6]),
-    /// FFA_SUCCESS of FFA_MEM_DONATE, FFA_MEM_LEND or FFA_MEM_SHARE.
+    /// FFA_SUCCESS of FFA_MEM_DONATE, FFA_MEM_LEND or FFA_MEM_SHARE, with the handle of the transaction.
     Sent(Handle),
-    /// FFA_SUCCESS of FFA_NOTIFICATION_GET: the bitmaps of the notifications that partitions, the normal world and the manager
-    /// made pending.
+    /// FFA_SUCCESS of FFA_NOTIFICATION_GET: the bitmaps of the notifications that partitions, the normal world and the
+    /// manager made pending.
     Pending {
         partitions: u64,
         normal_world: u64,
@@ -156,12 +159,12 @@ pub enum Reply {
     },
     /// A direct message, as its receiver sees it.
     Passed(DirectMessage),
-    /// FFA_RUN, FFA_MSG_WAIT or FFA_YIELD, as the endpoint that runs next sees it: the partition that is given cycles, or that
-    /// gives them back, in its execution context 0.
+    /// FFA_RUN, FFA_MSG_WAIT or FFA_YIELD, as the endpoint that runs next sees it. The partition is in its execution
+    /// context 0, and gets cycles or returns them.
     Scheduled {
         function: u32,
         partition: EndpointId,
     },
-    /// FFA_MEM_RETRIEVE_RESP, with the response's length.
+    /// FFA_MEM_RETRIEVE_RESP, with the length of the response in bytes.
     Retrieved(u32),
 }

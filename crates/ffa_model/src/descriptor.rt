@@ -1,5 +1,5 @@
 // SPDX-License-Identifier: MIT OR Apache-2.0
-//! What the descriptors of memory transactions say (DEN0077A, 5.11 and 16).
+//! The contents of the descriptors of memory transactions (DEN0077A, 5.11 and 16).
 ghost use Rattle.std.specs.Prelude.{◌≡◌, []};
 
 use crate::endpoint::EndpointId;
@@ -8,11 +8,11 @@ use crate::rights::{Data, Kind, Rights};
 use crate::transaction::{Range, Receiver};
 use arrayvec::ArrayVec;
 
-/// What a send descriptor says: that of FFA_MEM_DONATE, FFA_MEM_LEND or FFA_MEM_SHARE.
+/// The contents of a send descriptor, which is the descriptor of FFA_MEM_DONATE, FFA_MEM_LEND or FFA_MEM_SHARE.
 #[derive(Drop)]
 pub struct SendDesc {
     pub sender: EndpointId,
-    /// Whether the pages are to be zeroed before they are offered.
+    /// Whether the manager must zero the pages before it offers them.
     pub zero: bool,
     pub tag: u64,
     pub receivers: ArrayVec<Receiver, MOST_RECEIVERS>,
@@ -20,7 +20,8 @@ pub struct SendDesc {
 }
 
 impl SendDesc {
-    /// What offers nothing to nobody. It is room for what is read, whose list is large to clear and to move.
+    /// Returns a send descriptor that has no receivers and no ranges.
+    // It is room for a descriptor to read. The list of ranges is costly to clear and to move.
     pub fn none() -> SendDesc
         ensures receivers { result.receivers.items ≡ [] }
         ensures ranges { result.ranges.items ≡ [] }
@@ -35,7 +36,8 @@ impl SendDesc {
     }
 }
 
-/// What a retrieve descriptor says: that of FFA_MEM_RETRIEVE_REQ. `None` is a field that is not specified.
+/// The contents of a retrieve descriptor, which is the descriptor of FFA_MEM_RETRIEVE_REQ. A field that the descriptor
+/// does not specify is `None`.
 #[derive(Clone, Copy)]
 pub struct RetrieveDesc {
     pub sender: EndpointId,
@@ -46,45 +48,45 @@ pub struct RetrieveDesc {
     pub exec: bool,
 }
 
-/// What a relinquish descriptor says: that of FFA_MEM_RELINQUISH.
+/// The contents of a relinquish descriptor, which is the descriptor of FFA_MEM_RELINQUISH.
 #[derive(Clone, Copy)]
 pub struct RelinquishDesc {
     pub handle: u64,
-    /// Whether the pages are to be zeroed.
+    /// Whether the manager must zero the pages.
     pub zero: bool,
     pub endpoint: EndpointId,
 }
 
-/// What the answer to a retrieve tells its caller: that of FFA_MEM_RETRIEVE_RESP.
+/// The contents of the answer to a retrieve, which is the descriptor of FFA_MEM_RETRIEVE_RESP.
 #[derive(Drop)]
 pub struct Response {
     pub sender: EndpointId,
     pub kind: Kind,
-    /// Whether the pages were zeroed before they were offered.
+    /// Whether the manager zeroed the pages before it offered them.
     pub zero: bool,
-    /// Whether the pages are told to be non-secure.
+    /// Whether the answer says that the pages are non-secure.
     pub normal: bool,
     pub handle: u64,
     pub tag: u64,
-    /// The caller.
+    /// The caller of the retrieve.
     pub endpoint: EndpointId,
-    /// The right that the caller now holds.
+    /// The right to the pages that the caller now has.
     pub rights: Rights,
     pub ranges: ArrayVec<Range, MOST_RANGES>,
 }
 
-/// What the answer to a hypervisor's retrieve tells: a transaction as it was sent, with all receivers.
+/// The contents of the answer to a hypervisor's retrieve: a transaction as it was sent, with all receivers.
 #[derive(Drop)]
 pub struct SentTransaction {
     pub sender: EndpointId,
     pub kind: Kind,
-    /// Whether the pages were zeroed before they were offered.
+    /// Whether the manager zeroed the pages before it offered them.
     pub zero: bool,
-    /// Whether the pages are told to be non-secure.
+    /// Whether the answer says that the pages are non-secure.
     pub normal: bool,
     pub handle: u64,
     pub tag: u64,
-    /// The receivers, with the data right that each was granted.
+    /// The receivers, each with the data right that the sender granted to it.
     pub receivers: ArrayVec<Receiver, MOST_RECEIVERS>,
     pub ranges: ArrayVec<Range, MOST_RANGES>,
 }

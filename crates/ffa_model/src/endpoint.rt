@@ -11,21 +11,21 @@ use crate::rights::Rights;
 use arrayvec::ArrayVec;
 use bitflags::{Flag, Flags, bitflag_items};
 
-/// The identifier of an endpoint (DEN0077A, 6.1): 0 is the normal world, partitions are 0x8001 and on, and 0x8000 is
-/// the manager itself.
+/// The identifier of an endpoint (DEN0077A, 6.1): 0 is the normal world, and partitions have 0x8001 and higher. 0x8000
+/// is the manager itself.
 // Definitions, descriptors, reasons and the pool use plain numbers instead of this type and `Handle`: as keys, and as
 // bytes that a call reads. With the types, some 300 places would take the number out again.
 #[derive(Clone, Copy, Debug, PartialEq, Eq, PartialOrd, Ord, Default)]
 pub struct EndpointId(pub u16);
 
 impl EndpointId {
-    /// The normal world, which has no partition's identifier.
+    /// The identifier of the normal world, which is not a partition's.
     pub const NORMAL_WORLD: EndpointId = EndpointId(0);
 
-    /// The manager itself, which is no endpoint.
+    /// The identifier of the manager, which is not an endpoint.
     pub const MANAGER: EndpointId = EndpointId(0x8000);
 
-    /// The identifier of the endpoint at a place in the manifest, from 0.
+    /// Returns the identifier of the endpoint at a place in the manifest, counted from 0.
     pub fn at(place: usize) -> EndpointId
         requires { place < 0x8000 }
         ensures { result.0 ≡ identifier place }
@@ -37,22 +37,23 @@ impl EndpointId {
         }
     }
 
-    /// The place in the manifest of the endpoint with this identifier. Each identifier up to 0x8000 has place 0, the normal
-    /// world's: whether it names an endpoint is to be tested first, by `is_among`.
+    /// Returns the place in the manifest of the endpoint with this identifier, counted from 0. Each identifier up to
+    /// 0x8000 has place 0, as the normal world has. So first test by `is_among` whether the identifier names an
+    /// endpoint.
     pub fn place(self) -> usize
         ensures { result ≡ place self.0 }
     {
         self.0.saturating_sub(0x8000) as usize
     }
 
-    /// Whether this names an endpoint of a machine that has so many of them.
+    /// Whether this identifier names an endpoint of a machine that has `endpoints` endpoints.
     pub fn is_among(self, endpoints: usize) -> bool
         ensures { result ≡ is_known_among endpoints self.0 }
     {
         self == EndpointId::NORMAL_WORLD || self.is_partition_among(endpoints)
     }
 
-    /// Whether this names a partition of a machine that has so many endpoints.
+    /// Whether this identifier names a partition of a machine that has `endpoints` endpoints.
     pub fn is_partition_among(self, endpoints: usize) -> bool
         ensures { result ≡ is_partition_among endpoints self.0 }
     {
@@ -63,12 +64,13 @@ impl EndpointId {
 /// The form in which an endpoint writes and reads descriptors.
 #[derive(Clone, Copy, Debug, PartialEq, Eq, Default)]
 pub enum Version {
-    /// This project's own: short headers of memory transactions, and partition information of 8 bytes.
+    /// The form of this project, with short headers of memory transactions, and with 8 bytes of partition information
+    /// for each partition.
     Compact,
-    /// That of FF-A 1.1.
+    /// The form of FF-A 1.1.
     #[default]
     V1_1,
-    /// That of FF-A 1.2, whose access descriptors have 32 bytes.
+    /// The form of FF-A 1.2, whose access descriptors have 32 bytes.
     V1_2,
 }
 
@@ -80,7 +82,7 @@ pub struct Address(pub u32);
 #[derive(Clone, Copy, Debug, PartialEq, Eq, PartialOrd, Ord, Default)]
 pub struct PageNo(pub u32);
 
-/// What an endpoint takes part in, as bits (DEN0077A, 6.2.2).
+/// The properties of an endpoint, as bits (DEN0077A, 6.2.2): the messages and notifications that it takes part in.
 #[derive(Clone, Copy, Debug, PartialEq, Eq, Default)]
 pub struct Properties(u32);
 
@@ -95,7 +97,7 @@ bitflag_items! {
     }
 }
 
-// Written by hand, since this form of `bitflags` has contracts.
+// Written by hand, because this form of `bitflags` has contracts.
 impl Flags for Properties {
     type Bits = u32;
 
@@ -120,18 +122,18 @@ impl Flags for Properties {
     }
 }
 
-/// Pages in a row that an endpoint owns from the start, with its right to them.
+/// Consecutive pages that an endpoint owns from the start, with its right to them.
 #[derive(Clone, Copy, Debug, PartialEq, Eq, Default)]
 pub struct Region {
     /// The address of the first byte.
     pub base: u32,
-    /// How many pages.
+    /// The number of pages.
     pub pages: u32,
     pub rights: Rights,
 }
 
 impl Region {
-    /// Whether a page of the RAM at this address is one of the region's.
+    /// Whether the region has this page of RAM. RAM begins at `ram_base`.
     pub fn has_page(&self, ram_base: Address, page: PageNo) -> bool
         ensures { result ≡ has_page ram_base.0 page.0 self.now }
     {
@@ -140,7 +142,8 @@ impl Region {
         start <= address && address < start + 4096 * u64::from(self.pages)
     }
 
-    /// Up to which page of the RAM at this address, at most an end, the region has all pages from one on or none of them.
+    /// Returns the end of a run of pages that begins with `first`, and that the region has entirely or not at all. The
+    /// run does not include the end, which is at most `end`. RAM begins at `ram_base`.
     pub fn alike_until(&self, ram_base: Address, first: PageNo, end: u32) -> u32
         requires { first.0 < end }
         ensures some { first.0 < result }
@@ -163,14 +166,14 @@ impl Region {
     }
 }
 
-// How many pages of the RAM at this address begin below another address, if the RAM goes on so far.
+// Counts the pages of RAM that begin below `address`, as if RAM went on that far. RAM begins at `ram_base`.
 fn pages_below(ram_base: Address, address: u64) -> u64
     ensures { (p : ℕ) → (p < result) ↔ (ram_base.0 + 4096 * p < address) }
 {
     address.saturating_sub(u64::from(ram_base.0)).div_ceil(4096)
 }
 
-/// An endpoint as the manifest gives it. The UUID of the normal world is zeros.
+/// An endpoint as the manifest describes it. The UUID of the normal world is zeros.
 #[derive(Default, Drop)]
 pub struct Endpoint {
     pub version: Version,
@@ -180,7 +183,7 @@ pub struct Endpoint {
 }
 
 impl Endpoint {
-    // The endpoint of these parts, whose UUID has 16 bytes, as the type says.
+    // Makes the endpoint of these parts. Its UUID has 16 bytes, as the type says.
     fn of(
         version: Version,
         uuid: [u8; 16],
@@ -198,14 +201,16 @@ impl Endpoint {
         }
     }
 
-    /// The right that the endpoint's regions give it to a page of the RAM at this address.
+    /// Returns the endpoint's right to this page of RAM, which is the right of its first region with the page. Returns
+    /// `None` if no region of the endpoint has the page. RAM begins at `ram_base`.
     pub fn right_to(&self, ram_base: Address, page: PageNo) -> Option<Rights>
         ensures { result ≡ right_in ram_base.0 self.now.regions.items page.0 }
     {
         right_in(self.regions.as_slice(), ram_base, page)
     }
 
-    /// The same endpoint once more, whose UUID has 16 bytes, as the type says. It takes no memory, where `Clone` would answer a `Result`.
+    /// Returns a copy of the endpoint, and allocates nothing. The UUID of the endpoint has 16 bytes, as its type says.
+    // `Clone` would return a `Result`.
     pub fn copy(&self) -> Endpoint
         ensures same { result ≡ self.now }
         ensures uuid { is_uuid self.now.uuid ≡ true }
@@ -218,7 +223,8 @@ impl Endpoint {
     }
 }
 
-/// The right of the first of these regions that has a page of the RAM at this address.
+/// Returns the right of the first of these regions that has this page of RAM. Returns `None` if no region has the page.
+/// RAM begins at `ram_base`.
 pub fn right_in(regions: &[Region], ram_base: Address, page: PageNo) -> Option<Rights>
     ensures { result ≡ right_in ram_base.0 regions.now page.0 }
 {
@@ -228,8 +234,8 @@ pub fn right_in(regions: &[Region], ram_base: Address, page: PageNo) -> Option<R
         .map(|region| region.rights)
 }
 
-/// Up to which page of the RAM at this address, at most an end, each of these regions has all pages from one on or none
-/// of them.
+/// Returns the end of a run of pages that begins with `first`, and that each of these regions has entirely or not at
+/// all. The run does not include the end, which is at most `end`. RAM begins at `ram_base`.
 pub fn regions_until(regions: &[Region], ram_base: Address, first: PageNo, end: u32) -> u32
     requires { first.0 < end }
     ensures some { first.0 < result }

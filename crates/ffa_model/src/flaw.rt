@@ -1,6 +1,6 @@
 // SPDX-License-Identifier: MIT OR Apache-2.0
-//! The conditions of the descriptors of memory transactions, by the part of the descriptor (DEN0077A, 5.11 and 16). Bytes that break
-//! one are not a descriptor.
+//! The conditions of the descriptors of memory transactions, by the part of the descriptor (DEN0077A, 5.11 and 16).
+//! Bytes that break a condition are not a descriptor.
 
 /// A condition of a descriptor that its bytes break, by the part of the descriptor.
 #[derive(Clone, Copy)]
@@ -9,15 +9,15 @@ pub enum Flaw {
     Header(HeaderFlaw),
     /// A condition of the header of a send only.
     Send(SendFlaw),
-    /// A condition of the access descriptor that has this index, counted from 0: of a send, or, in FF-A 1.2, of a retrieve that
-    /// names its receivers.
+    /// A condition of the access descriptor with this index, counted from 0. A send has access descriptors. In FF-A
+    /// 1.2, so has a retrieve that names its receivers.
     Access(u32, AccessFlaw),
     /// A condition of the composite of a send.
     Composite(CompositeFlaw),
     /// A condition of the range of a send that has this index, counted from 0.
     Range(u32, RangeFlaw),
-    /// A condition of a retrieve descriptor only. If it is one of an access descriptor, this is the index of the caller's, counted
-    /// from 0.
+    /// A condition of a retrieve descriptor only. For a condition of an access descriptor, the number is the index of
+    /// the caller's access descriptor, counted from 0.
     Retrieve(u32, RetrieveFlaw),
     /// A condition of a relinquish descriptor.
     Relinquish(RelinquishFlaw),
@@ -117,7 +117,8 @@ pub enum RetrieveFlaw {
     Attributes,
     /// A flag is set that the call does not allow.
     Flags,
-    /// The number of access descriptors is not 1 in FF-A 1.1. In FF-A 1.2 it is not 1 to 4, or not 1 although bit 10 of the flags is set.
+    /// The number of access descriptors is not one that the call allows. FF-A 1.1 allows only 1. FF-A 1.2 allows 1 to
+    /// 4, but only 1 if bit 10 of the flags is set.
     AccessCount,
     /// No access descriptor names the caller.
     ReceiverIsAnother,

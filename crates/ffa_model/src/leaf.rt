@@ -1,7 +1,7 @@
 // SPDX-License-Identifier: MIT OR Apache-2.0
-//! Where a walk of stage 2 tables ends.
+//! The end of a walk of stage 2 tables.
 
-/// What a leaf descriptor says of an address (DDI 0487, D8.3).
+/// The physical address and the access that a leaf descriptor gives to an input address (DDI 0487, D8.3).
 #[derive(Clone, Copy, Debug, PartialEq, Eq)]
 pub struct Leaf {
     /// The physical address.

@@ -1,6 +1,6 @@
 // SPDX-License-Identifier: MIT OR Apache-2.0
 //! The types that all crates share, and in `specs/` the definition of what each operation does. Contracts cite these
-//! definitions, the small machine.
+//! definitions, which we call the small machine.
 #![tactic(auto)]
 
 pub mod call;

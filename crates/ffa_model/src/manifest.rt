@@ -15,16 +15,17 @@ use arrayvec::ArrayVec;
 /// The version of FF-A that a machine serves, from its boot on.
 #[derive(Clone, Copy, Debug, PartialEq, Eq, Default)]
 pub enum Ffa {
-    /// FF-A 1.1 (DEN0077A). All memory is alike, and no answer says whose it is.
+    /// FF-A 1.1 (DEN0077A). All memory is alike, and no answer says to which world it belongs.
     #[default]
     V1_1,
-    /// FF-A 1.2. Memory of the normal world's regions is non-secure (DEN0077A, 5 and 16), and whoever retrieves it is told so. All other
-    /// memory is secure, and is not sent to the normal world.
+    /// FF-A 1.2. The memory of the normal world's regions is non-secure (DEN0077A, 5 and 16), and an endpoint that
+    /// retrieves it sees this. All other memory is secure, and cannot be sent to the normal world.
     V1_2,
 }
 
 impl Ffa {
-    /// Whether an endpoint may ask about notices, which FFA_NOTIFICATION_INFO_GET tells: the normal world may, in FF-A 1.2.
+    /// Whether an endpoint may call FFA_NOTIFICATION_INFO_GET, which reports notices. In FF-A 1.2 the normal world may.
+    /// In FF-A 1.1 no endpoint may.
     pub fn tells_notices(self, endpoint: EndpointId) -> bool
         ensures { result ≡ hears_notices self endpoint.0 }
     {
@@ -35,16 +36,17 @@ impl Ffa {
     }
 }
 
-/// A machine's RAM and endpoints, which meet the conditions of an accepted manifest: the RAM's place and size, the
-/// count of endpoints, whose tables lie in RAM, and of each endpoint its UUID, its properties and its regions, which lie
-/// in RAM apart from the tables and from one another.
+/// The RAM and the endpoints of a machine, which meet the conditions of an accepted manifest. These conditions are
+/// about the place and the size of RAM, the number of endpoints, and the UUID, the properties and the regions of each
+/// endpoint. The tables of the endpoints are in RAM. The regions are in RAM too, apart from the tables and from one
+/// another.
 #[derive(Drop)]
 pub struct Manifest {
     /// The address of RAM's first byte.
     pub ram_base: Address,
-    /// RAM's size, in blocks of 2 MiB.
+    /// The size of RAM, in blocks of 2 MiB.
     pub ram_blocks: u32,
-    /// The first page of the tables, which stand in a row.
+    /// The first page of the tables, which are consecutive pages.
     pub tables: PageNo,
     /// The normal world, then the partitions in the order of their identifiers.
     pub endpoints: ArrayVec<Endpoint, MOST_ENDPOINTS>,
@@ -54,7 +56,7 @@ pub struct Manifest {
 }
 
 impl Manifest {
-    /// The manifest of these parts, whose machine serves FF-A 1.1.
+    /// Makes the manifest of these parts, whose machine serves FF-A 1.1.
     pub fn of(
         ram_base: Address,
         ram_blocks: u32,
@@ -77,7 +79,7 @@ impl Manifest {
         }
     }
 
-    /// The same manifest, whose machine serves this version of FF-A.
+    /// Returns the manifest with this version of FF-A, which its machine then serves.
     pub fn with_ffa(self, ffa: Ffa) -> Manifest
         ensures { result ≡ record self { ffa = ffa } }
     {
@@ -97,14 +99,15 @@ impl Manifest {
         }
     }
 
-    /// Whether its machine tells worlds apart.
+    /// Whether the manifest's machine distinguishes secure from non-secure memory.
     pub fn tells_worlds(&self) -> bool
         ensures { result ≡ is_some (normal_of self.now.ffa (regions_at self.now.endpoints.items 0)) }
     {
         self.ffa == Ffa::V1_2
     }
 
-    /// The address of an endpoint's level 1 table, by the endpoint's place in the manifest, from 0.
+    /// Returns the address of an endpoint's level 1 table. `index` is the place of the endpoint in the manifest,
+    /// counted from 0.
     pub fn root(&self, index: usize) -> u32
         requires { index < length self.now.endpoints.items }
         ensures { result ≡ root_of self.now.ram_base.0 self.now.tables.0 self.now.ram_blocks index }
@@ -112,7 +115,8 @@ impl Manifest {
         self.ram_base.0 + 4096 * (self.tables.0 + index as u32 * (2 + self.ram_blocks))
     }
 
-    /// The right that the regions of the endpoint at a place give it to a page; nothing where there is no such endpoint.
+    /// Returns the right to a page that the endpoint at a place has by its regions. Returns `None` if no region of the
+    /// endpoint has the page, or if there is no such endpoint.
     pub fn right_to(&self, place: usize, page: PageNo) -> Option<Rights>
         ensures { result ≡ right_in self.now.ram_base.0 (regions_at self.now.endpoints.items place) page.0 }
     {
@@ -124,7 +128,7 @@ impl Manifest {
         }
     }
 
-    /// The endpoint with a region that has the page, or the manager.
+    /// Returns the owner of a page, which is the endpoint with a region that has the page, or else the manager.
     pub fn owner_of(&self, page: PageNo) -> EndpointId
         ensures { result.0 ≡ owner_in self.now.ram_base.0 self.now.endpoints.items page.0 }
     {
@@ -136,7 +140,8 @@ impl Manifest {
         EndpointId::MANAGER
     }
 
-    /// Up to which page, at most an end, each region of each endpoint has all pages from one on or none of them.
+    /// Returns the end of a run of pages that begins with `first`, and that each region of each endpoint has entirely
+    /// or not at all. The run does not include the end, which is at most `end`.
     pub fn alike_until(&self, first: PageNo, end: u32) -> u32
         requires { first.0 < end }
         ensures some { first.0 < result }
@@ -152,7 +157,7 @@ impl Manifest {
         until
     }
 
-    /// The same manifest once more, whose UUIDs have 16 bytes each, as the types say. It takes no memory.
+    /// Returns a copy of the manifest, and allocates nothing. Each UUID has 16 bytes, as its type says.
     pub fn copy(&self) -> Manifest
         ensures same { result ≡ self.now }
         ensures uuids { have_uuids self.now.endpoints.items ≡ true }

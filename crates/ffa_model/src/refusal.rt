@@ -173,7 +173,7 @@ pub enum Refusal {
     ReceiversDiffer,
     /// The caller of FFA_PARTITION_INFO_GET has no RX and TX.
     BuffersNeeded,
-    /// The normal world has been told of all notifications that are pending.
+    /// FFA_NOTIFICATION_INFO_GET has reported all pending notifications already.
     NothingToTell,
 }
 

@@ -1,31 +1,31 @@
 // SPDX-License-Identifier: MIT OR Apache-2.0
 //! Rights to pages, and the kinds of memory transactions.
 
-/// What may be done with the data of a page, in rising order.
+/// The right to the data of a page, in rising order.
 #[derive(Clone, Copy, Debug, PartialEq, Eq, PartialOrd, Ord, Default)]
 pub enum Data {
-    /// It may be read.
+    /// The data may be read.
     #[default]
     Ro,
-    /// It may be read and written.
+    /// The data may be read and written.
     Rw,
 }
 
-/// What an endpoint may do with a page. To have no right is `None` of an `Option<Rights>`.
+/// The right of an endpoint to a page. An endpoint without a right has `None` as an `Option<Rights>`.
 #[derive(Clone, Copy, Debug, PartialEq, Eq, Default)]
 pub struct Rights {
     pub level: Data,
-    /// Whether instructions may be fetched from it.
+    /// Whether instructions may be fetched from the page.
     pub exec: bool,
 }
 
-/// How a transaction hands its pages on (DEN0077A, 5.1).
+/// The kind of a memory transaction, which says how it passes its pages to receivers (DEN0077A, 5.1).
 #[derive(Clone, Copy, Debug, PartialEq, Eq)]
 pub enum Kind {
-    /// The owner keeps its access.
+    /// The owner keeps its access to the pages.
     Share,
-    /// The owner gives up its access until it reclaims the pages.
+    /// The owner loses its access to the pages until it reclaims them.
     Lend,
-    /// The receiver becomes the owner.
+    /// The receiver becomes the owner of the pages.
     Donate,
 }

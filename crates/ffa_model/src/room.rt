@@ -1,35 +1,36 @@
 // SPDX-License-Identifier: MIT OR Apache-2.0
-//! Room for values in a row.
+//! Room for values in order.
 ghost use Rattle.std.specs.Prelude.{◌≡◌, ℕ, ◌<◌, List, length, slice_index_or, slice_set};
 ghost use Rattle.std.specs.Borrow.{sem, Lends};
 
 use arrayvec::ArrayVec;
 use std::alloc::Allocator;
 
-/// Room for values in a row, which stay as many as they are: in the value itself, or in memory of an allocator.
+/// Room for values in order, whose number does not change. The values are in the room itself, or in memory of an
+/// allocator.
 pub trait Room<T> {
     /// The values, in order.
     ghost items: { Self → List T };
 
-    /// The same room with another value at a place.
+    /// The room with another value at a place, and otherwise unchanged.
     ghost with_item: { Self → ℕ → T → Self };
 
-    /// How many values there are.
+    /// Returns the number of values.
     fn count(&self) -> usize
         ensures { result ≡ length (items self.now) };
 
-    /// The value at a place.
+    /// Returns the value at a place, counted from 0.
     fn at(&self, place: usize) -> &T
         requires { place < length (items self.now) }
         ensures { (other : T) → result.now ≡ slice_index_or (items self.now) place other };
 
-    /// The value at a place, to be written. No other value changes.
+    /// Returns the value at a place, counted from 0, for writing. No other value changes.
     fn at_mut(&mut self, place: usize) -> &mut T
         requires { place < length (items self.old) }
         ensures value { (other : T) → result.now ≡ slice_index_or (items self.old) place other }
         ensures* writes_back { sem 𝓛 (Lends Self.row T.row self.entry result (with_item self.old place)) };
 
-    /// Only that value changes.
+    /// A law of `with_item`: only the value at the place changes.
     ghost one_item: { (room : Self) (place : ℕ) (item : T) → items (with_item room place item)
         ≡ slice_set (items room) place item };
 }

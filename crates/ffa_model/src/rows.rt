@@ -1,12 +1,14 @@
 // SPDX-License-Identifier: MIT OR Apache-2.0
-//! What is told of each call by its identifier, once: definitions, contracts and functions name these tables.
+//! The facts about each call by its identifier. Each fact is here once, and definitions, contracts and functions use
+//! these tables.
 
 use crate::function::*;
 use crate::refusal::Refusal;
 
-/// Of a call the identifier of its 32-bit form and its name; the registers that its 64-bit form reads or answers whole, none
-/// where it has no such form; and its checks. Those of FF-A 1.1 stand in the order in which they are made. Those that only a machine of
-/// FF-A 1.2 makes stand behind them, so that each check keeps its number.
+/// The facts about a call: the identifier of its 32-bit form, its name, registers, and its checks. The registers are
+/// those that the 64-bit form reads or answers whole. There are no registers if the call has no 64-bit form. The checks
+/// of FF-A 1.1 come first, in the order in which the core makes them. The checks that only a machine of FF-A 1.2 makes
+/// follow, so that each check keeps its number.
 // A row is a tuple, because no definition can name a constant of a struct with references. The library for C does not
 // reach CALLS and WORDS, because they would need relocation. If guards were made from a row's checks and a list of
 // tests, each test would be far from its name.
@@ -23,14 +25,14 @@ macro_rules! rows {
     };
 }
 
-// Of FFA_MEM_DONATE, FFA_MEM_LEND and FFA_MEM_SHARE.
+// The checks of FFA_MEM_DONATE, FFA_MEM_LEND and FFA_MEM_SHARE.
 const SEND: &[Refusal] = checks!([
     BuffersMissing Fragmented DescriptorTooLong BufferAddressGiven BufferPagesGiven DescriptorMalformed
     SenderIsAnother ReceiverUnknown RangeOutside PageUnsendable GrantTooMuch ZerosUnwritable WorldsMixed
     TransactionsFull HandlesUsedUp
 ]);
 
-/// The calls, in the order of the definition's table.
+/// The rows of the calls, in the order of the definition's table.
 pub const CALLS: &[CallRow] = &rows![
     FFA_VERSION [] [];
     FFA_FEATURES [] [FunctionUnknown];

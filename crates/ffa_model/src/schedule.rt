@@ -1,5 +1,5 @@
 // SPDX-License-Identifier: MIT OR Apache-2.0
-//! Run states of endpoints.
+//! The run states of endpoints.
 
 use crate::endpoint::EndpointId;
 
@@ -11,17 +11,17 @@ pub enum Status {
     Waiting,
     Yielded,
     Blocked,
-    /// An interrupt stopped it in the midst of its work, with which it may go on.
+    /// An interrupt stopped the endpoint in the middle of its work, which it may continue.
     Preempted,
-    /// It runs on another processor.
+    /// The endpoint runs on another processor.
     RunsElsewhere,
 }
 
-/// Why a partition that doesn't wait was set going.
+/// The work of a partition that does not wait: the reason why it began to run.
 #[derive(Clone, Copy, Debug, PartialEq, Eq)]
 pub enum Work {
-    /// The normal world gave it cycles.
+    /// The normal world gave the partition cycles.
     Run,
-    /// It answers a direct request of this endpoint.
+    /// The partition answers a direct request of this endpoint.
     Request(EndpointId),
 }

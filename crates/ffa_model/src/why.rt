@@ -1,47 +1,47 @@
 // SPDX-License-Identifier: MIT OR Apache-2.0
-//! Why an operation is refused, and by what an endpoint has its access to a page.
+//! The reasons why an operation is refused, and why an endpoint has access to a page.
 
 use crate::endpoint::{EndpointId, PageNo};
 use crate::flaw::{FieldPlace, Flaw};
 use crate::operation::FaultKind;
 use crate::refusal::Refusal;
 
-/// Why an operation is refused.
+/// The reason why an operation is refused.
 #[derive(Clone, Copy)]
 pub enum Why {
-    /// The first check of the call that fails, and what it is about.
+    /// The first check of the call that fails, and the thing that this check is about.
     Refused {
         refusal: Refusal,
         about: Option<About>,
     },
-    /// The fault of an access, and for a translation fault below 2^32 what stands in the way.
+    /// The fault of an access. A translation fault below 2^32 also has its obstacle.
     Fault {
         kind: FaultKind,
         obstacle: Option<Obstacle>,
     },
 }
 
-/// What a check that fails is about.
+/// The thing that a failed check is about.
 #[derive(Clone, Copy)]
 pub enum About {
-    /// The first page that fails it, and what stands in the way there.
+    /// The first page that fails the check, and the obstacle there.
     Page {
         page: PageNo,
         obstacle: Option<Obstacle>,
     },
-    /// The endpoint that it names.
+    /// The endpoint that the call names.
     Endpoint(EndpointId),
     /// The handle of a transaction.
     Handle(u64),
-    /// A register by its number, and its value.
+    /// The number of a register, and its value.
     Register {
         register: u32,
         value: u64,
     },
-    /// The number of a notification's bit.
+    /// The number of a notification bit.
     Bit(u32),
-    /// The first condition that a descriptor breaks, the field of which it speaks, and the number in it, where it has 1, 2, 4 or 8
-    /// bytes and all are there.
+    /// The first condition that a descriptor breaks, and the place of the field that the condition is about. `value` is
+    /// the number in this field, if the field has 1, 2, 4 or 8 bytes and all of them are there.
     Field {
         flaw: Flaw,
         place: FieldPlace,
@@ -49,26 +49,26 @@ pub enum About {
     },
 }
 
-/// What stands in the way of the runner at an address below 2^32 that its tables do not map, or of the page that a call names.
+/// The obstacle at an address below 2^32 that the runner's tables do not map, or at a page that a call names.
 #[derive(Clone, Copy)]
 pub enum Obstacle {
-    /// The address is not one of RAM.
+    /// The address is outside RAM.
     OutsideRam,
-    /// The page is the manager's.
+    /// The page belongs to the manager.
     ManagersPage,
-    /// The page is another endpoint's, which this one is.
+    /// The page belongs to this endpoint, which is another one.
     OwnedBy(EndpointId),
-    /// The page stands in the open transaction with this handle.
+    /// The page is in the open transaction with this handle.
     InTransaction(u64),
 }
 
-/// By what an endpoint has its access to a page.
+/// The reason why an endpoint has access to a page.
 #[derive(Clone, Copy)]
 pub enum Grant {
-    /// The page is its own, and no open transaction names it.
+    /// The endpoint owns the page, and no open transaction names the page.
     Own,
-    /// The page is its own, and it shares it by the open transaction with this handle.
+    /// The endpoint owns the page, and shares it by the open transaction with this handle.
     Shared(u64),
-    /// It holds the open transaction with this handle, which names the page.
+    /// The endpoint holds the open transaction with this handle, and this transaction names the page.
     Held(u64),
 }

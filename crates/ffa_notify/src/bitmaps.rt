@@ -1,5 +1,5 @@
 // SPDX-License-Identifier: MIT OR Apache-2.0
-//! Who has bitmaps, which bits are bound to whom, which are pending, and of which the normal world is to be told.
+//! The notifications of all endpoints: bitmaps, bindings, pending bits, and the notices for the normal world.
 ghost use Rattle.std.specs.Prelude.{◌≡◌, ◌<◌, ◌≤◌, ℕ, true, false, length, replicate, if◌then◌else◌};
 ghost use Rattle.std.specs.FinSet as finite_set;
 ghost use Rattle.ffa_model.specs.declared.limits.TheConstants.{MOST_ENDPOINTS};
@@ -16,18 +16,19 @@ use arrayvec::ArrayVec;
 use ffa_model::{EndpointId, MOST_ENDPOINTS};
 use std::marker::Model;
 
-/// Of each endpoint whether it has bitmaps, which of its bits each other endpoint may set, and which are pending. Also of which
-/// the normal world is to be told. They take no memory beyond themselves.
+/// The notifications of all endpoints: whether each endpoint has bitmaps, which of its bits each other endpoint may
+/// set, and which are pending. It also has the notices: what the normal world must still learn of pending bits. The
+/// value has no memory besides itself.
 #[derive(Drop)]
 pub struct Bitmaps {
     // Whether an endpoint has bitmaps.
     pub(crate) has: ArrayVec<bool, MOST_ENDPOINTS>,
-    // The bits of a receiver that are bound to a sender: of each receiver a word for each endpoint that there may be.
+    // The bits of a receiver that are bound to a sender. Each receiver has a word for each endpoint that there may be.
     pub(crate) bound: ArrayVec<u64, MOST_BOUND>,
-    // The bits of a receiver that are pending: of each receiver a word for each class.
+    // The pending bits of a receiver. Each receiver has a word for each class.
     pub(crate) pending: ArrayVec<u64, MOST_PENDING>,
-    // Of each receiver and each class whether a bit became pending that the normal world has not been told of, and the
-    // receiver has not got.
+    // The notices. For each receiver and each class, a notice says that a bit became pending that
+    // FFA_NOTIFICATION_INFO_GET has not reported, and that the receiver has not got.
     pub(crate) notices: ArrayVec<bool, MOST_PENDING>,
 }
 
@@ -58,7 +59,7 @@ impl Bitmaps {
         endpoint.place() < has.len() && has[endpoint.place()]
     }
 
-    // The number of endpoints.
+    // Returns the number of endpoints.
     pub(crate) fn endpoints(&self) -> usize
         ensures number { result ≡ length self.now.bitmaps }
         ensures few { result ≤ MOST_ENDPOINTS }
@@ -66,7 +67,7 @@ impl Bitmaps {
         self.has.len()
     }
 
-    // The bits of a receiver that a sender may set.
+    // Returns the bits of a receiver that a sender may set.
     pub(crate) fn bound_to(&self, receiver: EndpointId, sender: EndpointId) -> u64
         requires receiver { is_known_among (length self.now.bitmaps) receiver.0 ≡ true }
         requires sender { is_known_among (length self.now.bitmaps) sender.0 ≡ true }
@@ -75,7 +76,7 @@ impl Bitmaps {
         self.bound[MOST_ENDPOINTS * receiver.place() + sender.place()]
     }
 
-    // The pending bits of a receiver's class.
+    // Returns the pending bits of a receiver's class.
     pub(crate) fn pending(&self, receiver: EndpointId, class: Class) -> u64
         requires { is_known_among (length self.now.bitmaps) receiver.0 ≡ true }
         ensures { (k : ℕ) → k < 64 → is_set k result ≡ is_pending self.now receiver.0 (class_number class) k }
@@ -91,7 +92,7 @@ impl Bitmaps {
         self.notices[CLASSES * receiver.place() + class.number()]
     }
 
-    // Whether a receiver has bitmaps and one of these bits of its class isn't pending yet.
+    // Whether a receiver has bitmaps and one of these bits of its class is not pending yet.
     fn is_news(&self, receiver: EndpointId, class: Class, bitmap: u64) -> bool
         requires { is_known_among (length self.now.bitmaps) receiver.0 ≡ true }
         ensures { result ≡ is_news self.now receiver.0 (class_number class) (bits_of bitmap) }
@@ -108,7 +109,7 @@ impl Bitmaps {
         self.bound[MOST_ENDPOINTS * receiver.place() + sender.place()] |= bitmap;
     }
 
-    // Lets a sender set these bits of a receiver no more.
+    // No longer lets a sender set these bits of a receiver.
     pub(crate) fn unbind_bits(&mut self, receiver: EndpointId, sender: EndpointId, bitmap: u64)
         requires receiver { is_known_among (length self.old.bitmaps) receiver.0 ≡ true }
         requires sender { is_known_among (length self.old.bitmaps) sender.0 ≡ true }
@@ -117,8 +118,8 @@ impl Bitmaps {
         self.bound[MOST_ENDPOINTS * receiver.place() + sender.place()] &= !bitmap;
     }
 
-    // Sets these bits of a receiver's class, where the receiver has bitmaps: they are pending, and what is new of them is to
-    // be told.
+    // Sets these bits of a receiver's class, if the receiver has bitmaps. They are then pending. If one of them was not
+    // pending before, there is a notice.
     pub(crate) fn set_bits(&mut self, receiver: EndpointId, class: Class, bitmap: u64)
         requires { is_known_among (length self.old.bitmaps) receiver.0 ≡ true }
         ensures { self.new ≡ with_set self.old receiver.0 (class_number class) (bits_of bitmap) }
@@ -127,7 +128,7 @@ impl Bitmaps {
         self.make_pending(receiver, class, bitmap);
     }
 
-    // Notes that the normal world is to be told of these bits, if they are news.
+    // Adds a notice of a receiver's class, if these bits are news.
     fn note_news(&mut self, receiver: EndpointId, class: Class, bitmap: u64)
         requires { is_known_among (length self.old.bitmaps) receiver.0 ≡ true }
         ensures { self.new ≡ with_notice self.old receiver.0 (class_number class) (bits_of bitmap) }
@@ -137,7 +138,7 @@ impl Bitmaps {
         }
     }
 
-    // Makes these bits of a receiver's class pending, where the receiver has bitmaps.
+    // Makes these bits of a receiver's class pending, if the receiver has bitmaps.
     fn make_pending(&mut self, receiver: EndpointId, class: Class, bitmap: u64)
         requires { is_known_among (length self.old.bitmaps) receiver.0 ≡ true }
         ensures { self.new ≡ with_pending self.old receiver.0 (class_number class) (bits_of bitmap) }
@@ -147,7 +148,7 @@ impl Bitmaps {
         }
     }
 
-    // Gives an endpoint bitmaps.
+    // Gives bitmaps to an endpoint.
     pub(crate) fn give(&mut self, endpoint: EndpointId)
         requires { is_known_among (length self.old.bitmaps) endpoint.0 ≡ true }
         ensures { self.new ≡ with_bitmaps self.old endpoint.0 }
@@ -155,7 +156,7 @@ impl Bitmaps {
         self.has[endpoint.place()] = true;
     }
 
-    // Takes the normal world's bitmaps away, and with them the bindings of its bits.
+    // Removes the normal world's bitmaps, and with them the bindings of its bits.
     pub(crate) fn take_away(&mut self)
         ensures { self.new ≡ without_bitmaps self.old 0 }
     {
@@ -163,7 +164,7 @@ impl Bitmaps {
         clear_front(&mut self.bound);
     }
 
-    // No bit of those classes of a receiver that the flags ask for is pending any more, and nothing of them is to be told.
+    // Clears the pending bits and the notices of a receiver's classes that the flags select.
     pub(crate) fn clear_asked(&mut self, receiver: EndpointId, flags: u32)
         requires { is_known_among (length self.old.bitmaps) receiver.0 ≡ true }
         ensures { self.new ≡ without_pending self.old receiver.0 flags }
@@ -173,7 +174,7 @@ impl Bitmaps {
         clear_asked(&mut self.notices, first, flags, false);
     }
 
-    // The normal world has been told of all.
+    // Removes all notices, because FFA_NOTIFICATION_INFO_GET has reported them.
     pub(crate) fn drop_notices(&mut self)
         ensures { self.new ≡ without_notices self.old }
     {

@@ -14,14 +14,18 @@ use crate::notices::notice_reply;
 use ffa_model::{EndpointId, ErrorCode, Ffa, NotificationBits, Reply};
 
 impl Bitmaps {
-    /// FFA_NOTIFICATION_BITMAP_CREATE on a machine of this version of FF-A, for an endpoint with so many execution contexts: the
-    /// normal world has bitmaps then.
+    /// Creates the bitmaps of the normal world: FFA_NOTIFICATION_BITMAP_CREATE on a machine of this version of FF-A.
+    /// The call names an endpoint with this number of execution contexts.
     ///
     /// # Errors
     ///
-    /// In this order: `Denied` where the caller isn't the normal world; `InvalidParameters` where the endpoint isn't, or where
-    /// the contexts aren't one in FF-A 1.1, or one to the count of processors in FF-A 1.2; `Denied` where it has bitmaps. An
-    /// error changes nothing.
+    /// The first of these that applies. An error changes nothing.
+    ///
+    /// - `Denied`: the caller is not the normal world.
+    /// - `InvalidParameters`: the endpoint is not the normal world.
+    /// - `InvalidParameters`: the number of contexts is not allowed. FF-A 1.1 allows 1, and FF-A 1.2 allows 1 to
+    ///   `MOST_PROCESSORS`.
+    /// - `Denied`: the normal world has bitmaps already.
     pub fn create(
         &mut self,
         ffa: Ffa,
@@ -38,12 +42,15 @@ impl Bitmaps {
         Ok(())
     }
 
-    /// FFA_NOTIFICATION_BITMAP_DESTROY: the normal world has no bitmaps then, and nobody may set its bits.
+    /// Destroys the bitmaps of the normal world, so that no endpoint may set its bits: FFA_NOTIFICATION_BITMAP_DESTROY.
     ///
     /// # Errors
     ///
-    /// In this order: `Denied` where the caller isn't the normal world; `InvalidParameters` where the endpoint isn't;
-    /// `Denied` where it has no bitmaps, or a bit of its is pending. An error changes nothing.
+    /// The first of these that applies. An error changes nothing.
+    ///
+    /// - `Denied`: the caller is not the normal world.
+    /// - `InvalidParameters`: the endpoint is not the normal world.
+    /// - `Denied`: the normal world has no bitmaps, or one of its bits is pending.
     pub fn destroy(&mut self, caller: EndpointId, endpoint: u32) -> Result<(), ErrorCode>
         ensures refusal { result_err result ≡ first_failure (destroy_guards self.old caller.0 endpoint) }
         ensures kept { OnErr result (self.new ≡ self.old) }
@@ -54,13 +61,16 @@ impl Bitmaps {
         Ok(())
     }
 
-    /// FFA_NOTIFICATION_BIND: the sender may set these bits of the caller.
+    /// Lets the sender set these bits of the caller: FFA_NOTIFICATION_BIND.
     ///
     /// # Errors
     ///
-    /// In this order: `InvalidParameters` where the receiver isn't the caller, the sender is no other endpoint, a flag
-    /// is set or no bit is; `Denied` where the caller has no bitmaps, another sender of the class may set one of the bits,
-    /// or one is pending. An error changes nothing.
+    /// The first of these that applies. An error changes nothing.
+    ///
+    /// - `InvalidParameters`: the receiver is not the caller, the sender is not another endpoint, a flag is set, or no
+    ///   bit is.
+    /// - `Denied`: the caller has no bitmaps, another sender of the class may set one of the bits, or one of them is
+    ///   pending.
     pub fn bind(&mut self, caller: EndpointId, bits: &NotificationBits) -> Result<(), ErrorCode>
         requires { is_known_among (length self.old.bitmaps) caller.0 ≡ true }
         ensures refusal { result_err result
@@ -74,12 +84,15 @@ impl Bitmaps {
         Ok(())
     }
 
-    /// FFA_NOTIFICATION_UNBIND: the sender may set these bits of the caller no more.
+    /// No longer lets the sender set these bits of the caller: FFA_NOTIFICATION_UNBIND.
     ///
     /// # Errors
     ///
-    /// In this order: `InvalidParameters` as FFA_NOTIFICATION_BIND; `Denied` where the caller has no bitmaps, the sender
-    /// may not set one of the bits, or one is pending. An error changes nothing.
+    /// The first of these that applies. An error changes nothing.
+    ///
+    /// - `InvalidParameters`: the receiver is not the caller, the sender is not another endpoint, a flag is set, or no
+    ///   bit is.
+    /// - `Denied`: the caller has no bitmaps, the sender may not set one of the bits, or one of them is pending.
     pub fn unbind(&mut self, caller: EndpointId, bits: &NotificationBits) -> Result<(), ErrorCode>
         requires { is_known_among (length self.old.bitmaps) caller.0 ≡ true }
         ensures refusal { result_err result
@@ -93,13 +106,17 @@ impl Bitmaps {
         Ok(())
     }
 
-    /// FFA_NOTIFICATION_SET: these bits of the receiver are pending. If one was not, the normal world is to be told.
+    /// Makes these bits of the receiver pending, if it has bitmaps: FFA_NOTIFICATION_SET. If one of them was not
+    /// pending before, there is a notice, which FFA_NOTIFICATION_INFO_GET reports to the normal world.
     ///
     /// # Errors
     ///
-    /// In this order: `InvalidParameters` where the sender isn't the caller, the receiver is no other endpoint, there
-    /// is a flag but the one that delays the schedule receiver interrupt, or no bit; `Denied` where the caller may not set
-    /// one of the bits. An error changes nothing.
+    /// The first of these that applies. An error changes nothing.
+    ///
+    /// - `InvalidParameters`: the sender is not the caller, or the receiver is not another endpoint.
+    /// - `InvalidParameters`: a flag is set other than the one that delays the schedule receiver interrupt, or no bit
+    ///   is set.
+    /// - `Denied`: the caller may not set one of the bits.
     pub fn set(&mut self, caller: EndpointId, bits: &NotificationBits) -> Result<(), ErrorCode>
         requires { is_known_among (length self.old.bitmaps) caller.0 ≡ true }
         ensures refusal { result_err result
@@ -113,15 +130,19 @@ impl Bitmaps {
         Ok(())
     }
 
-    /// FFA_NOTIFICATION_GET on a machine of this version of FF-A, for a receiver in one of its execution contexts: the reply has
-    /// the caller's pending bits of the classes that the flags ask for, and they are pending no more. Nothing of these classes is
-    /// to be told then. The bits are the same in each context.
+    /// Returns the caller's pending bits of the classes that the flags select, and clears them: FFA_NOTIFICATION_GET.
+    /// The machine is of this version of FF-A, and the call names a receiver and one of its execution contexts. The
+    /// bits are the same in each context. The notices of these classes are removed too.
     ///
     /// # Errors
     ///
-    /// In this order: `InvalidParameters` where the receiver isn't the caller, the context isn't 0, except that the normal
-    /// world has one for each processor in FF-A 1.2, or the flags ask for more than four classes; `Denied` where the caller
-    /// has no bitmaps. An error changes nothing.
+    /// The first of these that applies. An error changes nothing.
+    ///
+    /// - `InvalidParameters`: the receiver is not the caller.
+    /// - `InvalidParameters`: the caller does not have the context. It has context 0. In FF-A 1.2 the normal world has
+    ///   `MOST_PROCESSORS` contexts, counted from 0.
+    /// - `InvalidParameters`: the flags select a class other than the four of bits 0 to 3.
+    /// - `Denied`: the caller has no bitmaps.
     pub fn get(
         &mut self,
         ffa: Ffa,
@@ -143,14 +164,16 @@ impl Bitmaps {
         Ok(reply)
     }
 
-    /// FFA_NOTIFICATION_INFO_GET on a machine of this version of FF-A, in the form whose answer fills 64-bit registers, or in the
-    /// other: the reply names each endpoint of which the normal world is to be told, the lowest identifier first. It has been
-    /// told of all then.
+    /// Returns each endpoint that has a notice, the lowest identifier first, and removes all notices:
+    /// FFA_NOTIFICATION_INFO_GET. The machine is of this version of FF-A. `is_wide` is true for the form whose answer
+    /// fills 64-bit registers.
     ///
     /// # Errors
     ///
-    /// In this order: `NotSupported` where the caller isn't the normal world, or the machine is of FF-A 1.1; `NoData` where there
-    /// is nothing to tell. An error changes nothing.
+    /// The first of these that applies. An error changes nothing.
+    ///
+    /// - `NotSupported`: the caller is not the normal world, or the machine is of FF-A 1.1.
+    /// - `NoData`: there is no notice.
     pub fn info_get(
         &mut self,
         ffa: Ffa,
@@ -170,7 +193,7 @@ impl Bitmaps {
         Ok(reply)
     }
 
-    /// The manager tells a receiver, if it has bitmaps, that an indirect message stands in its RX.
+    /// Sets the manager's bit of a receiver, if it has bitmaps, because an indirect message is in its RX.
     pub fn raise_framework(&mut self, receiver: EndpointId)
         requires { is_known_among (length self.old.bitmaps) receiver.0 ≡ true }
         ensures { self.new ≡ with_set self.old receiver.0 manager_class message_bits }

@@ -1,5 +1,5 @@
 // SPDX-License-Identifier: MIT OR Apache-2.0
-//! The checks of the calls of notifications, each of which names the first that fails (DEN0077A, 16).
+//! The checks of the calls of notifications (DEN0077A, 16). Each function returns the first check that fails.
 ghost use Rattle.std.specs.Prelude.{◌≡◌, ◌==◌, ◌||◌, true, Bool, List, length, Some, OnOk, IfErr};
 ghost use Rattle.std.specs.Result.{result_err};
 ghost use Rattle.ffa_model.specs.Calls.{first_refusal};
@@ -10,11 +10,11 @@ ghost use Rattle.ffa_model.specs.State.{is_known_among};
 use crate::bitmaps::Bitmaps;
 use ffa_model::{EndpointId, Ffa, MOST_PROCESSORS, NotificationBits, Refusal};
 
-/// The flag of FFA_NOTIFICATION_SET that delays the schedule receiver interrupt, of which there is none.
+/// The flag of FFA_NOTIFICATION_SET that delays the schedule receiver interrupt. There is no such interrupt.
 const DELAY_INTERRUPT: u32 = 2;
 
 impl Bitmaps {
-    /// The checks of FFA_NOTIFICATION_BITMAP_CREATE, on a machine of this version of FF-A. Nothing changes.
+    /// Makes the checks of FFA_NOTIFICATION_BITMAP_CREATE, on a machine of this version of FF-A. Nothing changes.
     ///
     /// # Errors
     ///
@@ -43,7 +43,7 @@ impl Bitmaps {
         Ok(())
     }
 
-    /// The checks of FFA_NOTIFICATION_BITMAP_DESTROY. Nothing changes.
+    /// Makes the checks of FFA_NOTIFICATION_BITMAP_DESTROY. Nothing changes.
     ///
     /// # Errors
     ///
@@ -66,7 +66,7 @@ impl Bitmaps {
         Ok(())
     }
 
-    /// The checks of FFA_NOTIFICATION_BIND. Nothing changes.
+    /// Makes the checks of FFA_NOTIFICATION_BIND. Nothing changes.
     ///
     /// # Errors
     ///
@@ -84,7 +84,7 @@ impl Bitmaps {
         Ok(())
     }
 
-    /// The checks of FFA_NOTIFICATION_UNBIND. Nothing changes.
+    /// Makes the checks of FFA_NOTIFICATION_UNBIND. Nothing changes.
     ///
     /// # Errors
     ///
@@ -102,7 +102,7 @@ impl Bitmaps {
         Ok(())
     }
 
-    /// The checks of FFA_NOTIFICATION_SET. Nothing changes.
+    /// Makes the checks of FFA_NOTIFICATION_SET. Nothing changes.
     ///
     /// # Errors
     ///
@@ -134,7 +134,7 @@ impl Bitmaps {
         Ok(())
     }
 
-    /// The checks of FFA_NOTIFICATION_GET, on a machine of this version of FF-A. Nothing changes.
+    /// Makes the checks of FFA_NOTIFICATION_GET, on a machine of this version of FF-A. Nothing changes.
     ///
     /// # Errors
     ///
@@ -165,7 +165,7 @@ impl Bitmaps {
         Ok(())
     }
 
-    /// The checks of FFA_NOTIFICATION_INFO_GET, on a machine of this version of FF-A. Nothing changes.
+    /// Makes the checks of FFA_NOTIFICATION_INFO_GET, on a machine of this version of FF-A. Nothing changes.
     ///
     /// # Errors
     ///
@@ -183,8 +183,8 @@ impl Bitmaps {
         Ok(())
     }
 
-    // The checks that FFA_NOTIFICATION_BIND and FFA_NOTIFICATION_UNBIND make first: the receiver is the caller, the sender another
-    // endpoint, no flag is set, a bit is, and the caller has bitmaps.
+    // Makes the checks that FFA_NOTIFICATION_BIND and FFA_NOTIFICATION_UNBIND have first: the receiver is the caller,
+    // the sender is another endpoint, no flag is set, a bit is, and the caller has bitmaps.
     fn check_sender(&self, caller: EndpointId, bits: &NotificationBits) -> Result<(), Refusal>
         ensures refused { IfErr result (λ refusal. (rest : List (Bool × Refusal)) →
             first_refusal (sender_guards (length self.now.bitmaps) self.now caller.0 bits.now rest) ≡ Some refusal) }
@@ -222,7 +222,8 @@ fn is_normal_world(endpoint: EndpointId) -> bool
     endpoint == EndpointId::NORMAL_WORLD
 }
 
-// Whether the normal world may have so many execution contexts: one in FF-A 1.1, and up to the count of processors in FF-A 1.2.
+// Whether the normal world may have this number of execution contexts: one in FF-A 1.1, and one to `MOST_PROCESSORS` in
+// FF-A 1.2.
 fn is_context_count(ffa: Ffa, contexts: u32) -> bool
     ensures { result ≡ is_context_count ffa contexts }
 {
@@ -232,7 +233,8 @@ fn is_context_count(ffa: Ffa, contexts: u32) -> bool
     }
 }
 
-// Whether an endpoint has this execution context. A partition has the first alone, and so has the normal world in FF-A 1.1.
+// Whether an endpoint has this execution context, counted from 0. A partition has only context 0, and so has the normal
+// world in FF-A 1.1. In FF-A 1.2 the normal world has `MOST_PROCESSORS` contexts.
 fn is_context(ffa: Ffa, endpoint: EndpointId, context: u16) -> bool
     ensures { result ≡ is_context ffa endpoint.0 context }
 {
@@ -244,7 +246,7 @@ fn is_context(ffa: Ffa, endpoint: EndpointId, context: u16) -> bool
     }
 }
 
-// Whether these are flags of FFA_NOTIFICATION_SET.
+// Whether FFA_NOTIFICATION_SET allows these flags.
 fn has_set_flags(flags: u32) -> bool
     ensures { result ≡ (flags == 0 || flags == 2) }
 {

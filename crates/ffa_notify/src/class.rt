@@ -6,19 +6,19 @@ ghost use Rattle.ffa_notify.specs.Stored.{class_number};
 
 use ffa_model::EndpointId;
 
-/// Who sets the bits of a class.
+/// The class of a notification bit, by who sets the bit.
 #[derive(Clone, Copy, PartialEq, Eq)]
 pub enum Class {
-    /// Partitions do.
+    /// Partitions set the bits of this class.
     Partitions,
-    /// The normal world does.
+    /// The normal world sets the bits of this class.
     NormalWorld,
-    /// The manager does.
+    /// The manager sets the bits of this class.
     Manager,
 }
 
 impl Class {
-    /// The class of the bits that an endpoint sets.
+    /// Returns the class of the bits that an endpoint sets.
     pub fn of(sender: EndpointId) -> Class
         ensures { class_number result ≡ class_of sender.0 }
     {
@@ -29,7 +29,7 @@ impl Class {
         }
     }
 
-    // Its number, by which FFA_NOTIFICATION_GET asks for it.
+    // Returns the number of the class, by which FFA_NOTIFICATION_GET selects it.
     pub(crate) fn number(self) -> usize
         ensures value { result ≡ class_number self }
         ensures few { result < 3 }

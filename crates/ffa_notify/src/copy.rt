@@ -1,12 +1,12 @@
 // SPDX-License-Identifier: MIT OR Apache-2.0
-//! The same bitmaps once more.
+//! Copies of bitmaps.
 ghost use Rattle.std.specs.Prelude.{◌≡◌};
 
 use crate::bitmaps::Bitmaps;
 use arrayvec::ArrayVec;
 
 impl Bitmaps {
-    /// The same bitmaps once more: who has some, what is bound, what is pending, and what is to be told. It takes no memory.
+    /// Returns a copy of the bitmaps, with the bindings, the pending bits and the notices. It allocates nothing.
     pub fn copy(&self) -> Bitmaps
         ensures { result ≡ self.now }
     {
@@ -19,7 +19,7 @@ impl Bitmaps {
     }
 }
 
-// The same items once more.
+// Returns a copy of a list.
 fn copied<T: Copy + Default, const MOST: usize>(list: &ArrayVec<T, MOST>) -> ArrayVec<T, MOST>
     ensures { result ≡ list.now }
 {

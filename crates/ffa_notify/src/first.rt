@@ -12,8 +12,8 @@ use bitflags::Flags;
 use ffa_model::{Endpoint, MOST_ENDPOINTS, Manifest, Properties};
 
 impl Bitmaps {
-    /// The bitmaps at boot: each partition that receives notifications has them, and nothing is bound, pending or
-    /// to be told.
+    /// Returns the bitmaps at boot. Each partition that receives notifications has bitmaps. No bit is bound or pending,
+    /// and there is no notice.
     pub fn of(manifest: &Manifest) -> Bitmaps
         ensures bitmaps { result.bitmaps ≡ map has_first_bitmaps (enumerate_from 0 manifest.now.endpoints.items) }
         ensures bound { result.bound ≡ finite_set.empty }
@@ -31,7 +31,7 @@ impl Bitmaps {
     }
 }
 
-// Of each endpoint whether it has bitmaps from boot.
+// Returns for each endpoint whether it has bitmaps from boot on.
 fn first_bitmaps(manifest: &Manifest) -> ArrayVec<bool, MOST_ENDPOINTS>
     ensures { result.items ≡ map has_first_bitmaps (enumerate_from 0 manifest.now.endpoints.items) }
 {
@@ -43,7 +43,7 @@ fn first_bitmaps(manifest: &Manifest) -> ArrayVec<bool, MOST_ENDPOINTS>
     has
 }
 
-// Whether the endpoint at a place has bitmaps from boot.
+// Whether the endpoint at a place has bitmaps from boot on.
 #[tactic(auto, using(crate::proofs::Boots::contains_fourth))]
 fn has_bitmaps(place: usize, endpoint: &Endpoint) -> bool
     ensures { result ≡ has_first_bitmaps (place, endpoint.now) }
@@ -54,7 +54,7 @@ fn has_bitmaps(place: usize, endpoint: &Endpoint) -> bool
             .contains(Properties::RECEIVES_NOTIFICATIONS)
 }
 
-// An item this many times.
+// Returns a list of this many equal items.
 fn repeat<T: Copy + Default, const MOST: usize>(item: T, count: usize) -> ArrayVec<T, MOST>
     requires { count ≤ MOST }
     ensures { result.items ≡ replicate count item }

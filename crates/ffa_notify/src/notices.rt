@@ -1,5 +1,5 @@
 // SPDX-License-Identifier: MIT OR Apache-2.0
-//! What the normal world is told of notifications that are pending (DEN0077A, 10).
+//! The notices of pending notifications, which FFA_NOTIFICATION_INFO_GET reports to the normal world (DEN0077A, 10).
 ghost use Rattle.std.specs.Prelude.{◌≡◌, ◌<◌, true, length, map, slice_index_or};
 ghost use Rattle.std.specs.List.{list_any};
 ghost use Rattle.ffa_model.specs.declared.endpoint.EndpointId.{EndpointId};
@@ -14,7 +14,7 @@ use arrayvec::ArrayVec;
 use ffa_model::{EndpointId, MOST_ENDPOINTS, Reply};
 
 impl Bitmaps {
-    // The endpoints of which there is a notice, the lowest identifier first.
+    // Returns the endpoints that have a notice, the lowest identifier first.
     pub(crate) fn endpoints_to_tell(&self) -> ArrayVec<EndpointId, MOST_ENDPOINTS>
         ensures { map (λ (e : EndpointId). e.0) result.items ≡ endpoints_to_tell (length self.now.bitmaps) self.now }
     {
@@ -28,7 +28,7 @@ impl Bitmaps {
         to_tell
     }
 
-    // Whether there is such an endpoint.
+    // Whether any endpoint has a notice.
     pub(crate) fn has_notices(&self) -> bool
         ensures { result ≡ list_any (has_notice self.now) (listed (length self.now.bitmaps) identifier) }
     {
@@ -39,7 +39,7 @@ impl Bitmaps {
         has_notices
     }
 
-    // Whether there is a notice of an endpoint, of any class.
+    // Whether an endpoint has a notice, in any class.
     fn has_notice(&self, endpoint: EndpointId) -> bool
         requires { is_known_among (length self.now.bitmaps) endpoint.0 ≡ true }
         ensures { result ≡ has_notice self.now endpoint.0 }
@@ -51,7 +51,7 @@ impl Bitmaps {
     }
 }
 
-// The reply to FFA_NOTIFICATION_INFO_GET that names these endpoints, in 64-bit registers or in others.
+// Returns the reply to FFA_NOTIFICATION_INFO_GET that names these endpoints, in 64-bit or in 32-bit registers.
 pub(crate) fn notice_reply(is_wide: bool, endpoints: &ArrayVec<EndpointId, MOST_ENDPOINTS>) -> Reply
     ensures { result ≡ notice_reply is_wide (map (λ (e : EndpointId). e.0) endpoints.now.items) }
 {
@@ -67,7 +67,7 @@ pub(crate) fn notice_reply(is_wide: bool, endpoints: &ArrayVec<EndpointId, MOST_
     }
 }
 
-// Two identifiers from a place on in a word of 32 bits.
+// Returns the two identifiers from a place on, in a word of 32 bits.
 fn two_from(endpoints: &[EndpointId], place: usize) -> u32
     requires { place < 20 }
     ensures { result ≡ two_from (map (λ (e : EndpointId). e.0) endpoints.now) place }
@@ -75,7 +75,7 @@ fn two_from(endpoints: &[EndpointId], place: usize) -> u32
     identifier_at(endpoints, place) + 0x1_0000 * identifier_at(endpoints, place + 1)
 }
 
-// Four in a word of 64 bits.
+// Returns the four identifiers from a place on, in a word of 64 bits.
 fn four_from(endpoints: &[EndpointId], place: usize) -> u64
     requires { place < 18 }
     ensures { result ≡ four_from (map (λ (e : EndpointId). e.0) endpoints.now) place }
@@ -85,7 +85,7 @@ fn four_from(endpoints: &[EndpointId], place: usize) -> u64
     low + 0x1_0000_0000 * high
 }
 
-// The identifier at a place, and behind the last 0.
+// Returns the identifier at a place, or 0 after the last place.
 fn identifier_at(endpoints: &[EndpointId], place: usize) -> u32
     ensures value { result ≡ slice_index_or (map (λ (e : EndpointId). e.0) endpoints.now) place 0 }
     ensures few { result < 0x10000 }

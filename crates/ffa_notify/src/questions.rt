@@ -1,5 +1,5 @@
 // SPDX-License-Identifier: MIT OR Apache-2.0
-//! What the calls ask of the bits that they name.
+//! The tests that the calls make of the bits that they name.
 ghost use Rattle.std.specs.Prelude.{◌≡◌, ℕ, ◌<◌, ◌==◌, ◌&&◌, not, true, length};
 ghost use Rattle.std.specs.List.{list_all, list_any};
 ghost use Rattle.ffa_model.specs.Bits.{bits_of, is_set};
@@ -23,7 +23,7 @@ impl Bitmaps {
         bitmap & self.not_bindable(receiver, sender) == 0
     }
 
-    // The bits of a receiver that a sender may not get: others of the class may set them, or they are pending.
+    // Returns the bits of a receiver that a sender may not get: others of the class may set them, or they are pending.
     pub(crate) fn not_bindable(&self, receiver: EndpointId, sender: EndpointId) -> u64
         requires receiver { is_known_among (length self.now.bitmaps) receiver.0 ≡ true }
         requires sender { is_known_among (length self.now.bitmaps) sender.0 ≡ true }
@@ -49,7 +49,7 @@ impl Bitmaps {
         bitmap & self.not_unbindable(receiver, sender) == 0
     }
 
-    // The bits of a receiver that a sender may not lose: it may not set them, or they are pending.
+    // Returns the bits of a receiver that a sender may not lose: it may not set them, or they are pending.
     pub(crate) fn not_unbindable(&self, receiver: EndpointId, sender: EndpointId) -> u64
         requires receiver { is_known_among (length self.now.bitmaps) receiver.0 ≡ true }
         requires sender { is_known_among (length self.now.bitmaps) sender.0 ≡ true }
@@ -70,7 +70,7 @@ impl Bitmaps {
         bitmap & self.not_settable(receiver, sender) == 0
     }
 
-    // The bits of a receiver that a sender may not set.
+    // Returns the bits of a receiver that a sender may not set.
     pub(crate) fn not_settable(&self, receiver: EndpointId, sender: EndpointId) -> u64
         requires receiver { is_known_among (length self.now.bitmaps) receiver.0 ≡ true }
         requires sender { is_known_among (length self.now.bitmaps) sender.0 ≡ true }
@@ -80,7 +80,7 @@ impl Bitmaps {
         !self.bound_to(receiver, sender)
     }
 
-    /// Whether any bit of a receiver is pending, whichever its class.
+    /// Whether a bit of a receiver is pending, in any class.
     pub fn has_pending(&self, receiver: EndpointId) -> bool
         requires { is_known_among (length self.now.bitmaps) receiver.0 ≡ true }
         ensures { result ≡ has_pending self.now receiver.0 }
@@ -91,7 +91,7 @@ impl Bitmaps {
         partitions | normal_world | manager
     }
 
-    // What a receiver gets of the classes that the flags ask for.
+    // Returns the reply to FFA_NOTIFICATION_GET: the receiver's pending bits of the classes that the flags select.
     pub(crate) fn pending_reply(&self, receiver: EndpointId, flags: u32) -> Reply
         requires { is_known_among (length self.now.bitmaps) receiver.0 ≡ true }
         ensures { result ≡ get_reply self.now receiver.0 flags }
@@ -106,7 +106,7 @@ impl Bitmaps {
         }
     }
 
-    // The pending bits of a receiver's class, where the flags ask for it.
+    // Returns the pending bits of a receiver's class if the flags select it, and 0 otherwise.
     fn asked_word(&self, receiver: EndpointId, flags: u32, class: Class) -> u64
         requires { is_known_among (length self.now.bitmaps) receiver.0 ≡ true }
         ensures { result ≡ asked_word self.now receiver.0 flags (class_number class) }
@@ -118,7 +118,7 @@ impl Bitmaps {
         }
     }
 
-    // The bits of a receiver, in a sender's class, that others may set.
+    // Returns the bits of a receiver, in a sender's class, that other endpoints may set.
     fn bound_to_others(&self, receiver: EndpointId, sender: EndpointId) -> u64
         requires { is_known_among (length self.now.bitmaps) receiver.0 ≡ true }
         ensures { (k : ℕ) → k < 64 → is_set k result
@@ -131,7 +131,8 @@ impl Bitmaps {
         bits
     }
 
-    // The bits of a receiver, in a sender's class, that this endpoint may set, if it is another.
+    // Returns the bits of a receiver, in a sender's class, that this endpoint may set if it is another one. Returns 0
+    // for the sender.
     fn bound_to_other(&self, receiver: EndpointId, sender: EndpointId, other: EndpointId) -> u64
         requires receiver { is_known_among (length self.now.bitmaps) receiver.0 ≡ true }
         requires other { is_known_among (length self.now.bitmaps) other.0 ≡ true }

@@ -17,9 +17,9 @@ use ffa_mend::{Cause, Explained, Mend};
 use ffa_model::{About, Call, EndpointId, Refusal};
 
 impl Bitmaps {
-    /// Explains a check that refuses FFA_NOTIFICATION_BIND, FFA_NOTIFICATION_UNBIND or FFA_NOTIFICATION_SET of an endpoint: the
-    /// least bit of the call that fails the check of the bits, and why the sender can't get or lose it. Says nothing of other
-    /// calls and checks.
+    /// Explains a check that refuses FFA_NOTIFICATION_BIND, FFA_NOTIFICATION_UNBIND or FFA_NOTIFICATION_SET of an
+    /// endpoint. It returns the lowest bit of the call that fails the check of the bits, and why the sender cannot get
+    /// or lose it. It explains no other calls and checks.
     pub fn explain_bits(&self, caller: EndpointId, call: &Call, refusal: Refusal) -> Explained
         requires { is_known_among (length self.now.bitmaps) caller.0 ≡ true }
         ensures { let bit = about_bits (length self.now.bitmaps) self.now caller.0 call.now refusal in
@@ -29,8 +29,8 @@ impl Bitmaps {
         Explained::of(about, self.mend_bits(caller, call, about))
     }
 
-    // Which bit of FFA_NOTIFICATION_BIND, FFA_NOTIFICATION_UNBIND or FFA_NOTIFICATION_SET of an endpoint fails the check of
-    // the bits: the least of those that the call names. Of other calls and checks nothing.
+    // Returns the lowest bit that fails the check of the bits of FFA_NOTIFICATION_BIND, FFA_NOTIFICATION_UNBIND or
+    // FFA_NOTIFICATION_SET of an endpoint. Returns `None` for other calls and checks.
     fn about_bits(&self, caller: EndpointId, call: &Call, refusal: Refusal) -> Option<About>
         requires { is_known_among (length self.now.bitmaps) caller.0 ≡ true }
         ensures { result ≡ about_bits (length self.now.bitmaps) self.now caller.0 call.now refusal }
@@ -58,7 +58,7 @@ impl Bitmaps {
         }
     }
 
-    // The least of these bits that the sender may not get of the caller.
+    // Returns the lowest of these bits of the caller that the sender may not get.
     fn about_bind(
         &self,
         caller: EndpointId,
@@ -81,7 +81,7 @@ impl Bitmaps {
         }
     }
 
-    // The least of these bits that the sender may not lose of the caller.
+    // Returns the lowest of these bits of the caller that the sender may not lose.
     fn about_unbind(
         &self,
         caller: EndpointId,
@@ -104,7 +104,7 @@ impl Bitmaps {
         }
     }
 
-    // The least of these bits that the caller may not set of the receiver.
+    // Returns the lowest of these bits of the receiver that the caller may not set.
     fn about_set(
         &self,
         caller: EndpointId,
@@ -127,7 +127,7 @@ impl Bitmaps {
         }
     }
 
-    // Why the sender can't get or lose this bit of the caller.
+    // Returns why the sender cannot get or lose this bit of the caller.
     fn mend_bits(&self, caller: EndpointId, call: &Call, about: Option<About>) -> Option<Mend>
         requires { is_known_among (length self.now.bitmaps) caller.0 ≡ true }
         ensures { result ≡ mend_bits self.now caller.0 call.now about }
@@ -149,7 +149,7 @@ impl Bitmaps {
         }
     }
 
-    // That a bit is pending, or else this cause.
+    // Returns that a bit is pending, or else this cause.
     fn mend_bit(
         &self,
         caller: EndpointId,
@@ -181,7 +181,7 @@ impl Bitmaps {
         self.pending(receiver, Class::of(sender)) >> bit & 1 == 1
     }
 
-    /// The least bit of a receiver that is pending, in whichever class.
+    /// Returns the lowest bit of a receiver that is pending, in any class. Returns `None` if no bit is pending.
     pub fn mend_pending(&self, receiver: EndpointId) -> Option<Mend>
         requires { is_known_among (length self.now.bitmaps) receiver.0 ≡ true }
         ensures { result ≡ mend_pending self.now receiver.0 }
@@ -189,7 +189,7 @@ impl Bitmaps {
         least_of(self.pending_in_any(receiver))
     }
 
-    // The bits of a receiver that are pending, in whichever class.
+    // Returns the bits of a receiver that are pending, in any class.
     fn pending_in_any(&self, receiver: EndpointId) -> u64
         requires { is_known_among (length self.now.bitmaps) receiver.0 ≡ true }
         ensures { (k : ℕ) → k < 64 → is_set k result ≡ is_pending_in_any self.now receiver.0 k }
@@ -201,7 +201,7 @@ impl Bitmaps {
     }
 }
 
-// The least bit that is set, as what a check is about.
+// Returns the lowest bit that is set, as the thing that a check is about.
 fn first_of(mask: u64) -> Option<About>
     ensures { result ≡ option_map (λ (k : ℕ). Bit k) (find (λ k. is_set k mask) (listed 64 (λ k. k))) }
 {
@@ -211,7 +211,7 @@ fn first_of(mask: u64) -> Option<About>
     Some(About::Bit(mask.trailing_zeros()))
 }
 
-// The least bit that is set, as one that is pending.
+// Returns the lowest bit that is set, as a pending bit.
 fn least_of(bits: u64) -> Option<Mend>
     ensures { result ≡ option_map (λ (k : ℕ). Mend.Pending k) (find (λ k. is_set k bits) (listed 64 (λ k. k))) }
 {

@@ -5,16 +5,16 @@ ghost use Rattle.ffa_notify.specs.Stored.{is_asked};
 
 use ffa_model::MOST_ENDPOINTS;
 
-/// How many classes of bits there are.
+/// The number of classes of bits.
 pub(crate) const CLASSES: usize = 3;
 
-/// How many words of bound bits there are at most: one for each receiver and each sender.
+/// The most words of bound bits: one for each receiver and each sender.
 pub(crate) const MOST_BOUND: usize = MOST_ENDPOINTS * MOST_ENDPOINTS;
 
-/// How many words of pending bits there are at most: one for each receiver and each class. There are as many notices.
+/// The most words of pending bits: one for each receiver and each class. There is the same number of notices.
 pub(crate) const MOST_PENDING: usize = CLASSES * MOST_ENDPOINTS;
 
-// Clears the first words, a receiver's.
+// Clears the first words, which belong to one receiver.
 pub(crate) fn clear_front(words: &mut [u64])
     requires { MOST_ENDPOINTS ≤ length words.old }
     ensures count { length words.new ≡ length words.old }
@@ -26,8 +26,8 @@ pub(crate) fn clear_front(words: &mut [u64])
     }
 }
 
-// Clears those of the items of a receiver's classes, which begin at a place, that the flags ask for. An item that is cleared is
-// empty.
+// Clears the items of a receiver's classes that the flags select. The receiver's items begin at `first`. A cleared item
+// is `empty`.
 pub(crate) fn clear_asked<T: Copy>(items: &mut [T], first: usize, flags: u32, empty: T)
     requires { first + 3 ≤ length items.old }
     ensures count { length items.new ≡ length items.old }
@@ -41,7 +41,7 @@ pub(crate) fn clear_asked<T: Copy>(items: &mut [T], first: usize, flags: u32, em
     }
 }
 
-// Makes each false.
+// Makes each item false.
 pub(crate) fn clear(items: &mut [bool])
     ensures { items.new ≡ replicate (length items.old) false }
 {

@@ -1,13 +1,13 @@
 // SPDX-License-Identifier: MIT OR Apache-2.0
-//! What is kept of a page.
+//! The record of a page.
 ghost use Rattle.std.specs.Prelude.{◌≡◌};
 ghost use Rattle.ffa_pages.specs.Stored.{own_right_in, slot_in, standing_of};
 
 use ffa_model::{Data, EndpointId, Rights, SlotNumber};
 use std::mem::size_of;
 
-// The right of a page's owner while the page stands in no open transaction, and the place in the pool of the open
-// transaction that names the page. One enum has both in twice the bytes of a place: as two fields they take more.
+// The right of a page's owner while the page is in no open transaction, and the place in the pool of the open
+// transaction that names the page. One enum has both in twice the bytes of a place. As two fields they would take more.
 #[derive(Clone, Copy, Default, PartialEq, Eq)]
 pub(crate) enum Standing {
     #[default]
@@ -64,8 +64,8 @@ impl Standing {
     }
 }
 
-/// What is kept of a page, in four bytes where a `SlotNumber` has one. Of a page of the manager, which `EndpointId::MANAGER`
-/// owns, the standing says nothing.
+/// The record of a page, which has four bytes if a `SlotNumber` has one byte. `EndpointId::MANAGER` owns a page of the
+/// manager, and then the field `standing` says nothing.
 #[derive(Clone, Copy, Default, PartialEq, Eq)]
 pub struct KeptPage {
     pub(crate) owner: EndpointId,
@@ -75,13 +75,13 @@ pub struct KeptPage {
 const _: () = prove!(size_of::<KeptPage>() == 2 + 2 * size_of::<SlotNumber>());
 
 impl KeptPage {
-    /// A page of the manager.
+    /// The record of a page of the manager.
     pub const MANAGERS: KeptPage = KeptPage {
         owner: EndpointId::MANAGER,
         standing: Standing::Read,
     };
 
-    // The standing of a page that an endpoint owns.
+    // Returns the field `standing` of a page that an endpoint owns, and `None` for a page of the manager.
     pub(crate) fn own_standing(self) -> Option<Standing>
         ensures { result ≡ standing_of self }
     {

@@ -1,5 +1,5 @@
 // SPDX-License-Identifier: MIT OR Apache-2.0
-//! The owners of pages.
+//! The table of the owners of pages.
 ghost use Rattle.std.specs.Prelude.{◌≡◌, ◌≢◌, ℕ, ◌*◌, ◌<◌, ◌≤◌, ◌⊎◌, [], length, slice_set, IfOk, OnOk, OnErr};
 ghost use Rattle.ffa_model.specs.declared.limits.TheConstants.{MOST_PAGES};
 ghost use Rattle.ffa_model.specs.Identifiers.{manager};
@@ -13,8 +13,9 @@ use ffa_model::{EndpointId, MOST_PAGES, Manifest, PageNo, Rights, Room, SlotNumb
 use std::alloc::{AllocError, Allocator};
 use std::marker::Model;
 
-/// Of each page of RAM its owner, the owner's right to it while it stands in no open transaction, and the place of the
-/// open transaction that names it in the pool of these. It lies in the table itself, or in memory of an allocator.
+/// The table of the pages of RAM. It has the owner of each page, and the owner's right to the page while the page is in
+/// no open transaction. It also has the place in the pool of the open transaction that names the page. Its entries are
+/// in the table itself, or in memory of an allocator.
 #[derive(Drop)]
 pub struct PageTable<P: Room<KeptPage> + Drop = ArrayVec<KeptPage, MOST_PAGES>> {
     pages: P,
@@ -35,8 +36,8 @@ impl<P: Room<KeptPage> + Drop> Model for PageTable<P> {
 }
 
 impl PageTable {
-    /// The table in which each page of a region is the region's endpoint's, with the region's right, all others are the
-    /// manager's, and no transaction is open. It takes no memory.
+    /// Makes the table of a manifest. Each page of a region belongs to the region's endpoint, with the region's right.
+    /// All other pages belong to the manager, and no transaction is open. It allocates nothing.
     pub fn of(manifest: &Manifest) -> PageTable
         ensures { let entry = first_entry manifest.now.ram_base.0 manifest.now.endpoints.items in
             result ≡ listed (512 * manifest.now.ram_blocks) entry }
@@ -47,7 +48,7 @@ impl PageTable {
         table
     }
 
-    /// The table of no RAM at all, with room for the largest.
+    /// Returns the table of no RAM, with room for the largest RAM.
     pub fn none() -> PageTable
         ensures { result ≡ [] }
     {
@@ -56,7 +57,8 @@ impl PageTable {
         }
     }
 
-    /// Makes the table of no RAM one of so many pages, which are the manager's, where it stands: it is large to move.
+    /// Makes the table of no RAM a table of this number of pages, which belong to the manager. It works in place,
+    /// because the table is large to move.
     pub fn begin(&mut self, pages: usize)
         requires none { self.old ≡ [] }
         requires few { pages ≤ MOST_PAGES }
@@ -67,7 +69,8 @@ impl PageTable {
 }
 
 impl<A: Allocator> PageTable<Vec<KeptPage, A>> {
-    /// The table of so many pages, which are the manager's, in memory of an allocator.
+    /// Makes a table of this number of pages, which belong to the manager, in memory of an allocator. Returns an error
+    /// if the allocator refuses memory.
     pub fn of_managers(alloc: A, pages: usize) -> Result<PageTable<Vec<KeptPage, A>>, AllocError>
         requires { pages ≤ MOST_PAGES }
         ensures { IfOk result (λ table. length table ≡ pages) }
@@ -79,8 +82,8 @@ impl<A: Allocator> PageTable<Vec<KeptPage, A>> {
         Ok(table)
     }
 
-    /// Makes it a table of so many pages. It takes memory only where it never had as many; where that is refused it stays as
-    /// it is.
+    /// Makes this a table of this number of pages. It allocates memory only if the table never had that number. If the
+    /// allocator refuses memory, the table stays as it is.
     pub fn resize(&mut self, pages: usize) -> Result<(), AllocError>
         requires { pages ≤ MOST_PAGES }
         ensures resized { OnOk result (length self.new ≡ pages) }
@@ -92,8 +95,8 @@ impl<A: Allocator> PageTable<Vec<KeptPage, A>> {
 }
 
 impl<P: Room<KeptPage> + Drop> PageTable<P> {
-    /// Makes it the table in which each page of a region is the region's endpoint's, with the region's right, all others
-    /// are the manager's, and no transaction is open.
+    /// Makes this the table of a manifest. Each page of a region belongs to the region's endpoint, with the region's
+    /// right. All other pages belong to the manager, and no transaction is open.
     pub fn fill(&mut self, manifest: &Manifest)
         requires { length self.old ≡ 512 * manifest.now.ram_blocks }
         ensures { let entry = first_entry manifest.now.ram_base.0 manifest.now.endpoints.items in
@@ -108,7 +111,7 @@ impl<P: Room<KeptPage> + Drop> PageTable<P> {
         }
     }
 
-    /// Becomes the same as another table of as many pages, wherever that one lies.
+    /// Copies another table of the same number of pages to this one, wherever the other one is stored.
     pub fn copy_from<Q: Room<KeptPage> + Drop>(&mut self, other: &PageTable<Q>)
         requires { length self.old ≡ length other.now }
         ensures { self.new ≡ other.now }
@@ -118,7 +121,7 @@ impl<P: Room<KeptPage> + Drop> PageTable<P> {
         }
     }
 
-    /// The number of pages.
+    /// Returns the number of pages.
     pub fn pages(&self) -> u32
         ensures count { result ≡ length self.now }
         ensures most { result ≤ MOST_PAGES }
@@ -126,7 +129,7 @@ impl<P: Room<KeptPage> + Drop> PageTable<P> {
         self.pages.count() as u32
     }
 
-    /// The owner of a page, `EndpointId::MANAGER` where it is no endpoint's.
+    /// Returns the owner of a page, which is `EndpointId::MANAGER` if no endpoint owns the page.
     pub fn owner_of(&self, page: PageNo) -> EndpointId
         requires { page.0 < length self.now }
         ensures { result.0 ≡ owner_at self.now page.0 }
@@ -134,7 +137,8 @@ impl<P: Room<KeptPage> + Drop> PageTable<P> {
         self.entry(page).owner
     }
 
-    /// The owner's right to a page that stands in no open transaction. A page of the manager has none.
+    /// Returns the right that the owner of a page has while the page is in no open transaction. Returns `None` for a
+    /// page of the manager.
     pub fn own_right_of(&self, page: PageNo) -> Option<Rights>
         requires { page.0 < length self.now }
         ensures { result ≡ own_right_at self.now page.0 }
@@ -144,7 +148,7 @@ impl<P: Room<KeptPage> + Drop> PageTable<P> {
             .map(|standing| standing.own_right())
     }
 
-    /// The place in the pool of the open transaction that names a page, if one does.
+    /// Returns the place in the pool of the open transaction that names a page, if a transaction names it.
     pub fn slot_of(&self, page: PageNo) -> Option<SlotNumber>
         requires { page.0 < length self.now }
         ensures { result ≡ slot_at self.now page.0 }
@@ -154,8 +158,9 @@ impl<P: Room<KeptPage> + Drop> PageTable<P> {
             .and_then(|standing| standing.slot())
     }
 
-    /// Up to which page, at most an end, all pages from one on are alike: of one owner, with one own right, and named by one
-    /// open transaction or by none.
+    /// Returns the end of a run of pages that begins with `first`, and whose pages are alike. They have the same owner
+    /// and the same own right, and the same open transaction names them, or no transaction does. The run does not
+    /// include the end, which is at most `end`.
     pub fn alike_until(&self, first: PageNo, end: u32) -> u32
         requires some { first.0 < end }
         requires end { end ≤ length self.now }
@@ -172,7 +177,7 @@ impl<P: Room<KeptPage> + Drop> PageTable<P> {
         end
     }
 
-    /// Gives a page to an endpoint, with this right. A transaction that names the page goes on naming it.
+    /// Gives a page to an endpoint, with this right. A transaction that names the page still names it.
     pub fn give(&mut self, page: PageNo, owner: EndpointId, own_right: Rights)
         requires page { page.0 < length self.old }
         requires endpoint { owner.0 ≢ manager }
@@ -183,8 +188,8 @@ impl<P: Room<KeptPage> + Drop> PageTable<P> {
         self.put(page, KeptPage { owner, standing });
     }
 
-    /// Says which open transaction names a page that an endpoint owns, by its place in the pool, or that none does. Of a
-    /// page of the manager nothing is kept.
+    /// Stores which open transaction names a page that an endpoint owns, by its place in the pool, or that no
+    /// transaction does. It stores nothing for a page of the manager.
     pub fn mark(&mut self, page: PageNo, slot: Option<SlotNumber>)
         requires { page.0 < length self.old }
         ensures { self.new ≡ marked self.old page.0 slot }
@@ -196,8 +201,8 @@ impl<P: Room<KeptPage> + Drop> PageTable<P> {
         }
     }
 
-    /// Makes the pages behind one, up to an end, like that one: of its owner, with its own right, and named by its
-    /// transaction, if one names it.
+    /// Makes the pages after `first`, up to `end`, like `first`: they have its owner and its own right, and the
+    /// transaction that names it names them. All other pages stay as they are.
     pub fn repeat(&mut self, first: PageNo, end: u32)
         requires some { first.0 < end }
         requires end { end ≤ length self.old }
@@ -209,7 +214,7 @@ impl<P: Room<KeptPage> + Drop> PageTable<P> {
         self.put_run(PageNo(first.0 + 1), end, kept);
     }
 
-    // Keeps the same of pages from one on, up to an end.
+    // Stores the same record for the pages from `first` on, up to `end`.
     fn put_run(&mut self, first: PageNo, end: u32, kept: KeptPage)
         requires some { first.0 ≤ end }
         requires end { end ≤ length self.old }
@@ -222,7 +227,7 @@ impl<P: Room<KeptPage> + Drop> PageTable<P> {
         }
     }
 
-    // Keeps this of a page.
+    // Stores the record of a page.
     fn put(&mut self, page: PageNo, kept: KeptPage)
         requires { page.0 < length self.old }
         ensures { self.new ≡ slice_set self.old page.0 (entry_of kept) }
@@ -230,7 +235,7 @@ impl<P: Room<KeptPage> + Drop> PageTable<P> {
         *self.pages.at_mut(page.0 as usize) = kept;
     }
 
-    // What is kept of a page.
+    // Returns the record of a page.
     fn entry(&self, page: PageNo) -> KeptPage
         requires { page.0 < length self.now }
         ensures { entry_of result ≡ entry_at self.now page.0 }
@@ -239,7 +244,7 @@ impl<P: Room<KeptPage> + Drop> PageTable<P> {
     }
 }
 
-// Appends so many pages of the manager to nothing yet.
+// Adds this number of pages of the manager to an empty list.
 fn push_managers(pages: &mut ArrayVec<KeptPage, MOST_PAGES>, count: usize)
     requires none { pages.old.items ≡ [] }
     requires few { count ≤ MOST_PAGES }
@@ -250,7 +255,8 @@ fn push_managers(pages: &mut ArrayVec<KeptPage, MOST_PAGES>, count: usize)
     }
 }
 
-// Up to which page, at most an end, the regions of a manifest have all pages from one on alike.
+// Returns the end of a run of pages that begins with `first`, and whose pages are alike in the regions of a manifest.
+// The end is at most `end`.
 fn alike_from(manifest: &Manifest, first: PageNo, end: u32) -> u32
     requires { first.0 < end }
     ensures some { first.0 < result }
@@ -261,7 +267,7 @@ fn alike_from(manifest: &Manifest, first: PageNo, end: u32) -> u32
     manifest.alike_until(first, end)
 }
 
-// What is kept of a page from the start.
+// Returns the record that a page has from the start.
 fn first_page(manifest: &Manifest, page: PageNo) -> KeptPage
     ensures { entry_of result ≡ first_entry manifest.now.ram_base.0 manifest.now.endpoints.items page.0 }
 {

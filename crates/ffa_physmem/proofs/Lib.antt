@@ -3,3 +3,4 @@ pub mod Words
 pub mod Moments
 pub mod Boxes
 pub mod Pieces
+pub mod Work

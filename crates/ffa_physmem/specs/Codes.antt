@@ -24,10 +24,10 @@ coded_reading =
 
 abbrev pub coded_step : Coded Step
 coded_step =
-    code_by (Ram × (Ram × (Option Settled × Option Reading)))
-    (coded× coded_ram (coded× coded_ram (coded× (coded_option coded_settled) (coded_option coded_reading))))
-    (λ s. (s.before, (s.after, (s.settled, s.reading))))
-    (λ p. record { before = p.0; after = p.1.0; settled = p.1.1.0; reading = p.1.1.1 }) (λ _. refl)
+    code_by (Ram × (Ram × ((Option Settled × Option Reading) × (ℕ × ℕ))))
+    (coded× coded_ram (coded× coded_ram (coded× (coded× (coded_option coded_settled) (coded_option coded_reading)) (coded× coded_ℕ coded_ℕ))))
+    (λ s. (s.before, (s.after, ((s.settled, s.reading), (s.words, s.loans)))))
+    (λ p. record { before = p.0; after = p.1.0; settled = p.1.1.0.0; reading = p.1.1.0.1; words = p.1.1.1.0; loans = p.1.1.1.1 }) (λ _. refl)
 
 abbrev pub coded_past : Coded Past
 coded_past =

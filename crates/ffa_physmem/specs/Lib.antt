@@ -4,3 +4,4 @@ pub mod FrameRam
 pub mod Levels
 pub mod Moments
 pub mod Unrecorded
+pub mod Work

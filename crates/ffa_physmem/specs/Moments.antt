@@ -18,7 +18,8 @@ pub record Reading : Type 0 where
   pub count : ℕ
   pub begins : Bool
 
--- one step: RAM as it was before, and as it is behind it; and what was settled, or read at once, where the step is that.
+-- one step: RAM as it was before, and as it is behind it; what was settled, or read at once, where the step is that; and how many words
+-- it stored, and how many loans of a page's bytes it counts. One step of each loan counts that loan.
 -- A step is data, and a history is a list that grows. If the promise were that some single writes lead from the old
 -- RAM to the new one, a bad body could meet it with RAMs that it never had. A set of RAMs could have a bad one from
 -- before.
@@ -27,6 +28,8 @@ pub record Step : Type 0 where
   pub after : Ram
   pub settled : Option Settled
   pub reading : Option Reading
+  pub words : ℕ
+  pub loans : ℕ
 
 -- pages that are read and written in copies, from one on, by the bytes that memory has there beneath them
 pub record Copies : Type 0 where
@@ -67,6 +70,8 @@ pub record IsStore (old : Ram) (page index value : ℕ) (s : Step) : Type 0 wher
   pub after : s.after ≡ with_page old page (with_word (page_of old page) index value)
   pub none : s.settled ≡ None
   pub unread : s.reading ≡ None
+  pub words : s.words ≡ 1
+  pub loans : s.loans ≡ 0
 
 -- no translation unit holds anything that it read before, of these pages of an endpoint
 pub record IsSettling (old : Ram) (endpoint first count : ℕ) (s : Step) : Type 0 where
@@ -74,6 +79,8 @@ pub record IsSettling (old : Ram) (endpoint first count : ℕ) (s : Step) : Type
   pub after : s.after ≡ old
   pub settled : s.settled ≡ Some (record { endpoint = endpoint; first = first; count = count })
   pub unread : s.reading ≡ None
+  pub words : s.words ≡ 0
+  pub loans : s.loans ≡ 0
 
 -- a step while the bytes of a page are lent to be written: before it and behind it any bytes may stand in that page
 pub record IsInLoan (old : Ram) (page : ℕ) (s : Step) : Type 0 where
@@ -119,6 +126,8 @@ pub record IsReading (old new : Ram) (first count : ℕ) (begins : Bool) (s : St
   pub after : s.after ≡ new
   pub none : s.settled ≡ None
   pub reading : s.reading ≡ Some (record { first = first; count = count; begins = begins })
+  pub words : s.words ≡ 0
+  pub loans : s.loans ≡ 0
 
 -- A history is the steps so far, the last first, where a record of them is kept. This one was there already, or such a one
 -- with one more step, which has P behind what is before it.

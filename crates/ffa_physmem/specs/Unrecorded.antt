@@ -5,6 +5,7 @@ use Rattle.std.proofs.Common.{◌≡◌, List, [], None}
 use Rattle.std.proofs.lemmas.Option.{none-some}
 use Rattle.ffa_model.specs.Ram.{Ram}
 use Rattle.ffa_physmem.specs.Moments.{Site, Step, Past, Only, TurnsIn}
+use Rattle.ffa_physmem.specs.Work.{Spends, Work}
 
 -- such a past
 abbrev pub unrecorded : Site → Past
@@ -19,3 +20,6 @@ no_steps same = record { each = λ h none. absurd (none-some h none); site = sam
 
 pub no_turn : (ram : Ram) (site : Site) → TurnsIn ram (unrecorded site)
 no_turn ram site h none = absurd (none-some h none)
+
+pub no_spending : {old : Past} (site : Site) (work : Work) → Spends old (unrecorded site) work
+no_spending site work = record { each = λ h none. absurd (none-some h none) }

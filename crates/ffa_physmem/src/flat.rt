@@ -80,7 +80,8 @@ fn zero_pages<A: Allocator>(alloc: A, count: u32) -> Result<Vec<[u8; 4096], A>, 
 }
 
 impl<A: Allocator> PhysMem for FlatRam<A> {
-    ghost use Rattle.ffa_physmem.specs.Unrecorded.{no_site, no_steps, no_turn, unrecorded};
+    ghost use Rattle.ffa_physmem.specs.Unrecorded.{no_site, no_spending, no_steps, no_turn, unrecorded};
+    ghost use Rattle.ffa_physmem.specs.Work.{loans_of};
     ghost use Rattle.std.specs.Prelude.{refl};
     ghost use Rattle.std.specs.Vec.{with_item};
 
@@ -98,6 +99,8 @@ impl<A: Allocator> PhysMem for FlatRam<A> {
     ghost one_page = { λ m page bytes. refl };
 
     ghost in_loan = { λ _ _ _. no_steps refl };
+
+    ghost one_loan = { λ _ _ _. no_spending no_site (loans_of 1) };
 
     ghost in_turn = { λ _. no_turn _ no_site };
 

@@ -86,7 +86,8 @@ pub fn zero_frames<A: Allocator + Copy>(
 }
 
 impl<A: Allocator, L: Allocator> PhysMem for FrameRam<A, L> {
-    ghost use Rattle.ffa_physmem.specs.Unrecorded.{no_site, no_steps, no_turn, unrecorded};
+    ghost use Rattle.ffa_physmem.specs.Unrecorded.{no_site, no_spending, no_steps, no_turn, unrecorded};
+    ghost use Rattle.ffa_physmem.specs.Work.{loans_of};
     ghost use Rattle.std.specs.Prelude.{refl};
     ghost use Rattle.ffa_physmem.specs.FrameRam.{ram_of, with_frame, ram_of-with_frame};
 
@@ -104,6 +105,8 @@ impl<A: Allocator, L: Allocator> PhysMem for FrameRam<A, L> {
     ghost one_page = { ram_of-with_frame };
 
     ghost in_loan = { λ _ _ _. no_steps refl };
+
+    ghost one_loan = { λ _ _ _. no_spending no_site (loans_of 1) };
 
     ghost in_turn = { λ _. no_turn _ no_site };
 

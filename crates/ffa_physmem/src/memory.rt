@@ -4,6 +4,7 @@ ghost use Rattle.std.specs.Prelude.{◌≡◌, ℕ, ◌+◌, ◌*◌, ◌%◌, �
 ghost use Rattle.std.specs.Borrow.{sem, Lends, Array, u8 as byte};
 ghost use Rattle.ffa_model.specs.Ram.{Ram, page_of, with_page, word_of, with_word};
 ghost use Rattle.ffa_physmem.specs.Moments.{Past, IsStore, IsSettling, IsInLoan, One, Only, TurnsIn, memory_of};
+ghost use Rattle.ffa_physmem.specs.Work.{Spends, loans_of};
 
 use byteorder::{ByteOrder, LittleEndian};
 use ffa_model::{Address, PageNo};
@@ -80,6 +81,7 @@ pub trait PhysMem {
         requires { page.0 < length (ram self.old).pages }
         ensures ram { ram self.new ≡ with_page (ram self.old) page.0 (replicate 4096 0) }
         ensures steps { Only (past self.old) (past self.new) (λ _ s. IsInLoan (ram self.old) page.0 s) }
+        ensures spent { Spends (past self.old) (past self.new) (loans_of 1) }
     {
         *self.page_mut(page) = [0; PAGE_SIZE];
     }
@@ -92,6 +94,7 @@ pub trait PhysMem {
         ensures ram { let old = page_of (ram self.old) in
             ram self.new ≡ with_page (ram self.old) to.0 (take count (old from.0) ++ drop count (old to.0)) }
         ensures steps { Only (past self.old) (past self.new) (λ _ s. IsInLoan (ram self.old) to.0 s) }
+        ensures spent { Spends (past self.old) (past self.new) (loans_of 1) }
     {
         let mut buffer = [0; PAGE_SIZE];
         buffer.copy_from_slice(self.page(from));
@@ -108,6 +111,10 @@ pub trait PhysMem {
     /// While a page is lent it may change in any number of steps, and nothing else does.
     ghost in_loan: { (m : Self) (page : ℕ) (bytes : List ℕ)
         → Only (past m) (past (with_bytes m page bytes)) (λ _ s. IsInLoan (ram m) page s) };
+
+    /// Of all these steps, one counts the loan.
+    ghost one_loan: { (m : Self) (page : ℕ) (bytes : List ℕ)
+        → Spends (past m) (past (with_bytes m page bytes)) (loans_of 1) };
 
     /// Each step begins with the RAM with which the one before ended, the last ended with this one, and RAM stays where it
     /// stands.

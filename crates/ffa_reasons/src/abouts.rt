@@ -1,6 +1,6 @@
 // SPDX-License-Identifier: MIT OR Apache-2.0
-//! Explains a check that refuses a call by what the machine has: the owner of a page, buffers, run states and bitmaps. Nothing is
-//! changed, and no memory is taken.
+//! Explains a check that refuses a call by what the machine has: the owner of a page, buffers, run states and bitmaps.
+//! It changes nothing and allocates nothing.
 ghost use Rattle.std.specs.Prelude.{◌≡◌, length};
 ghost use Rattle.std.specs.Option.{option_map};
 ghost use Rattle.ffa_model.specs.About.{about_page};
@@ -25,7 +25,7 @@ use ffa_spmc::Store;
 use ffa_tlb::Translations;
 
 impl<M: PhysMem + Drop, T: Translations + Drop, S: Store> Reasons<'_, M, T, S> {
-    // The page that fails a check, with what stands in the runner's way there.
+    // Returns the page that fails a check, with its obstacle for the runner.
     pub(crate) fn about_page(&self, page: Option<PageNo>) -> Option<About>
         ensures { result ≡ option_map (about_page self.now) page }
     {
@@ -36,7 +36,7 @@ impl<M: PhysMem + Drop, T: Translations + Drop, S: Store> Reasons<'_, M, T, S> {
         })
     }
 
-    // What stands in the runner's way, which its own page doesn't.
+    // Returns the obstacle, or `None` if it is that the page belongs to the runner.
     fn unless_own(&self, obstacle: Obstacle) -> Option<Obstacle>
         ensures { result ≡ unless_own self.now.runner obstacle }
     {
@@ -54,7 +54,7 @@ impl<M: PhysMem + Drop, T: Translations + Drop, S: Store> Reasons<'_, M, T, S> {
         }
     }
 
-    // What to change where a check of a call fails, by what the check is about.
+    // Returns what to change if a check of a call fails, by what the check is about.
     pub(crate) fn mend_about(&self, refusal: Refusal, about: Option<About>) -> Option<Mend>
         ensures { result ≡ mend_about self.now refusal about }
     {
@@ -68,7 +68,7 @@ impl<M: PhysMem + Drop, T: Translations + Drop, S: Store> Reasons<'_, M, T, S> {
         }
     }
 
-    // Where an access faults.
+    // Returns what to change if an access faults.
     pub(crate) fn mend_fault(&self, addr: u64, kind: FaultKind) -> Option<Mend>
         ensures { result ≡ mend_fault self.now addr kind }
     {
@@ -81,7 +81,7 @@ impl<M: PhysMem + Drop, T: Translations + Drop, S: Store> Reasons<'_, M, T, S> {
         }
     }
 
-    // What the runner may do at an address.
+    // Returns what the runner may do at an address.
     fn mend_access(&self, addr: u64) -> Option<Mend>
         ensures { result ≡ mend_access self.now addr }
     {
@@ -92,7 +92,7 @@ impl<M: PhysMem + Drop, T: Translations + Drop, S: Store> Reasons<'_, M, T, S> {
         })
     }
 
-    // Of a page.
+    // Returns what to change if a check about a page fails.
     fn mend_page(&self, refusal: Refusal, page: PageNo, obstacle: Option<Obstacle>) -> Option<Mend>
         ensures { result ≡ mend_page self.now refusal page.0 obstacle }
     {
@@ -105,7 +105,7 @@ impl<M: PhysMem + Drop, T: Translations + Drop, S: Store> Reasons<'_, M, T, S> {
         }
     }
 
-    // Of a page of the runner's own that stands in no open transaction.
+    // Returns what to change about a page that the runner owns and that is in no open transaction.
     fn mend_own_page(&self, refusal: Refusal, page: PageNo) -> Option<Mend>
         ensures { result ≡ mend_own_page self.now refusal page.0 }
     {
@@ -122,7 +122,7 @@ impl<M: PhysMem + Drop, T: Translations + Drop, S: Store> Reasons<'_, M, T, S> {
         }
     }
 
-    // The owner's own right to a page.
+    // Returns the owner's own right to a page.
     fn mend_right(&self, page: PageNo) -> Option<Mend>
         ensures { result ≡ option_map Mend.OwnRight (own_right_of self.now page.0) }
     {
@@ -132,7 +132,7 @@ impl<M: PhysMem + Drop, T: Translations + Drop, S: Store> Reasons<'_, M, T, S> {
         }
     }
 
-    // The same, where more is granted.
+    // Returns the owner's own right to a page, to which the call grants more.
     fn mend_grant(&self, page: PageNo) -> Option<Mend>
         ensures { result ≡ option_map Mend.Granted (own_right_of self.now page.0) }
     {
@@ -142,7 +142,7 @@ impl<M: PhysMem + Drop, T: Translations + Drop, S: Store> Reasons<'_, M, T, S> {
         }
     }
 
-    // Of an endpoint that is named.
+    // Returns what to change if a check about an endpoint that the call names fails.
     fn mend_endpoint(&self, refusal: Refusal, endpoint: EndpointId) -> Option<Mend>
         ensures { result ≡ mend_endpoint self.now refusal endpoint.0 }
     {
@@ -155,7 +155,7 @@ impl<M: PhysMem + Drop, T: Translations + Drop, S: Store> Reasons<'_, M, T, S> {
         }
     }
 
-    // Of a field of a descriptor: the header's form.
+    // Returns what to change about a field of a descriptor: the form of the header.
     fn mend_field(&self, flaw: Flaw) -> Option<Mend>
         ensures { result ≡ mend_field self.now flaw }
     {
@@ -168,7 +168,7 @@ impl<M: PhysMem + Drop, T: Translations + Drop, S: Store> Reasons<'_, M, T, S> {
         }
     }
 
-    // Of what the runner has and works on: its buffers, a request, and its bitmaps.
+    // Returns what to change about the runner's buffers, its request or its bitmaps.
     fn mend_runner(&self, refusal: Refusal) -> Option<Mend>
         ensures { result ≡ mend_runner self.now refusal }
     {
@@ -189,7 +189,7 @@ impl<M: PhysMem + Drop, T: Translations + Drop, S: Store> Reasons<'_, M, T, S> {
         }
     }
 
-    // Of the ends of FFA_MSG_SEND_DIRECT_RESP.
+    // Returns what to change about the ends of FFA_MSG_SEND_DIRECT_RESP.
     fn mend_response(&self) -> Option<Mend>
         ensures { let s = self.now in
             result ≡ mend_response s.runner (requester (work_in (schedule_of s) s.runner)) }
@@ -197,14 +197,14 @@ impl<M: PhysMem + Drop, T: Translations + Drop, S: Store> Reasons<'_, M, T, S> {
         ffa_messages::mend_response(self.parts.chain)
     }
 
-    // What the runner works on.
+    // Returns the work of the runner.
     fn mend_work(&self) -> Mend
         ensures { let s = self.now in result ≡ mend_work s.runner (work_in (schedule_of s) s.runner) }
     {
         mend_work(self.parts.chain)
     }
 
-    // The least bit of the runner that is pending.
+    // Returns the lowest pending bit of the runner.
     fn mend_pending(&self) -> Option<Mend>
         ensures { result ≡ mend_pending (notifications_of self.now) self.now.runner }
     {
@@ -212,14 +212,15 @@ impl<M: PhysMem + Drop, T: Translations + Drop, S: Store> Reasons<'_, M, T, S> {
         self.parts.bitmaps.mend_pending(runner)
     }
 
-    // The buffers of an endpoint.
+    // Returns the buffers of an endpoint.
     fn buffers_of(&self, endpoint: EndpointId) -> Option<Mapped>
         ensures { option_map kept.buffers_of result ≡ buffers_of self.now endpoint.0 }
     {
         self.parts.buffers.of(endpoint)
     }
 
-    // The owner's right to a page that stands in no open transaction. The manager has none, nor is there one outside the RAM.
+    // Returns the right that the owner of a page has while the page is in no open transaction. Returns `None` for a
+    // page of the manager, and outside RAM.
     fn own_right_of(&self, page: PageNo) -> Option<Rights>
         ensures { result ≡ own_right_of self.now page.0 }
     {
@@ -232,7 +233,7 @@ impl<M: PhysMem + Drop, T: Translations + Drop, S: Store> Reasons<'_, M, T, S> {
     }
 }
 
-// What the runner works on.
+// Returns the work of the runner.
 fn mend_work(chain: &Chain) -> Mend
     ensures { result ≡ mend_work chain.now.runner (work_in chain.now chain.now.runner) }
 {
@@ -243,7 +244,7 @@ fn mend_work(chain: &Chain) -> Mend
     }
 }
 
-// How an endpoint gets bitmaps.
+// Returns how an endpoint gets bitmaps.
 fn mend_bitmaps(endpoint: EndpointId) -> Mend
     ensures { result ≡ mend_bitmaps endpoint.0 }
 {
@@ -254,7 +255,7 @@ fn mend_bitmaps(endpoint: EndpointId) -> Mend
     })
 }
 
-// In which of its buffers an endpoint has a page, if it has it in one.
+// Returns the buffer in which an endpoint has a page, if it has the page in a buffer.
 fn in_buffer(endpoint: EndpointId, own: Option<Mapped>, page: PageNo) -> Option<Mend>
     ensures { result ≡ in_buffer endpoint.0 (option_map kept.buffers_of own) page.0 }
 {
@@ -274,14 +275,14 @@ fn side_of(own: Mapped, page: PageNo) -> Option<Side>
     }
 }
 
-// Whether a page is one of so many from a first one on.
+// Whether a page is one of this number of pages from `first` on.
 fn is_in_run(first: PageNo, pages: u32, page: PageNo) -> bool
     ensures { result ≡ is_in_run first.0 pages page.0 }
 {
     first.0 <= page.0 && u64::from(page.0) < u64::from(first.0) + u64::from(pages)
 }
 
-// How many bytes TX has, and RX.
+// Returns the number of bytes of TX, which RX has too.
 fn room_of(own: Option<Mapped>) -> u64
     ensures { result ≡ room_of (option_map kept.buffers_of own) }
 {

@@ -1,6 +1,6 @@
 // SPDX-License-Identifier: MIT OR Apache-2.0
-//! Explains a check that refuses a call by what the call names: a message, a descriptor, pages, a transaction or bits. Each is
-//! read once. Nothing is changed, and no memory is taken.
+//! Explains a check that refuses a call by what the call names: a message, a descriptor, pages, a transaction or bits.
+//! It reads each once, changes nothing, and allocates nothing.
 ghost use Rattle.std.specs.Prelude.{◌≡◌, None, length};
 ghost use Rattle.std.specs.Option.{option_map};
 ghost use Rattle.ffa_model.specs.AboutContents.{about_bits};
@@ -28,7 +28,7 @@ use ffa_spmc::Store;
 use ffa_tlb::Translations;
 
 impl<M: PhysMem + Drop, T: Translations + Drop, S: Store> Reasons<'_, M, T, S> {
-    // Of FFA_RXTX_MAP.
+    // Explains the first check of FFA_RXTX_MAP that fails.
     pub(crate) fn why_map(&self, tx: u64, rx: u64, pages: u32) -> Option<(Refusal, Explained)>
         ensures { result ≡ with_told self.now (Call.RxtxMap tx rx pages) (first_refusal (rxtx_map self.now tx rx pages).guards) }
     {
@@ -45,7 +45,7 @@ impl<M: PhysMem + Drop, T: Translations + Drop, S: Store> Reasons<'_, M, T, S> {
         Some((refusal, told))
     }
 
-    // Of FFA_MSG_SEND2.
+    // Explains the first check of FFA_MSG_SEND2 that fails.
     pub(crate) fn why_message(&self) -> Option<(Refusal, Explained)>
         ensures { result ≡ with_told self.now Call.MsgSend2 (first_refusal (msg_send2 self.now).guards) }
     {
@@ -56,7 +56,7 @@ impl<M: PhysMem + Drop, T: Translations + Drop, S: Store> Reasons<'_, M, T, S> {
         Some((refusal, told))
     }
 
-    // Of FFA_MEM_DONATE, FFA_MEM_LEND or FFA_MEM_SHARE.
+    // Explains the first check of FFA_MEM_DONATE, FFA_MEM_LEND or FFA_MEM_SHARE that fails.
     pub(crate) fn why_send(&self, kind: Kind, transfer: Transfer) -> Option<(Refusal, Explained)>
         ensures { let told = sent_told (scene_of self.now) self.now.runner self.now.ffa kind transfer (descriptor_in self.now transfer.total) in
             result ≡ option_map told (first_refusal (memory_send self.now kind transfer).guards) }
@@ -77,7 +77,7 @@ impl<M: PhysMem + Drop, T: Translations + Drop, S: Store> Reasons<'_, M, T, S> {
             .why_send(ram, layout, pages, buffers, runner, kind, &call)
     }
 
-    // Of FFA_MEM_RETRIEVE_REQ.
+    // Explains the first check of FFA_MEM_RETRIEVE_REQ that fails.
     pub(crate) fn why_retrieve(&self, transfer: Transfer) -> Option<(Refusal, Explained)>
         ensures { result ≡ with_told self.now (Call.MemRetrieve transfer) (first_refusal (memory_retrieve self.now transfer).guards) }
     {
@@ -97,7 +97,7 @@ impl<M: PhysMem + Drop, T: Translations + Drop, S: Store> Reasons<'_, M, T, S> {
         pool.why_retrieve(ram, layout, pages, buffers, runner, &call)
     }
 
-    // Of FFA_MEM_RELINQUISH.
+    // Explains the first check of FFA_MEM_RELINQUISH that fails.
     pub(crate) fn why_relinquish(&self) -> Option<(Refusal, Explained)>
         ensures { result ≡ with_told self.now Call.MemRelinquish (first_refusal (memory_relinquish self.now).guards) }
     {
@@ -106,7 +106,7 @@ impl<M: PhysMem + Drop, T: Translations + Drop, S: Store> Reasons<'_, M, T, S> {
         parts.pool.why_relinquish(parts.ram, parts.buffers, runner)
     }
 
-    // Of FFA_MEM_RECLAIM.
+    // Explains the first check of FFA_MEM_RECLAIM that fails.
     pub(crate) fn why_reclaim(&self, handle: Handle, flags: u32) -> Option<(Refusal, Explained)>
         ensures { let refusal = first_refusal (memory_reclaim self.now handle.0 flags).guards in
             result ≡ with_told self.now (Call.MemReclaim handle flags) refusal }
@@ -121,7 +121,7 @@ impl<M: PhysMem + Drop, T: Translations + Drop, S: Store> Reasons<'_, M, T, S> {
         Some((refusal, told))
     }
 
-    // Of FFA_NOTIFICATION_BIND, FFA_NOTIFICATION_UNBIND or FFA_NOTIFICATION_SET.
+    // Explains the first check of FFA_NOTIFICATION_BIND, FFA_NOTIFICATION_UNBIND or FFA_NOTIFICATION_SET that fails.
     pub(crate) fn why_bits(
         &self,
         call: &Call,
@@ -137,7 +137,8 @@ impl<M: PhysMem + Drop, T: Translations + Drop, S: Store> Reasons<'_, M, T, S> {
     }
 }
 
-// Of the buffers of so many pages that begin at these addresses, where the RAM begins at `base`.
+// Returns what to change about the buffers that begin at these addresses and have this number of pages. RAM begins at
+// `base`.
 fn mend_map<P: Room<KeptPage> + Drop>(
     owners: &PageTable<P>,
     base: Address,
@@ -155,7 +156,7 @@ fn mend_map<P: Room<KeptPage> + Drop>(
     }
 }
 
-// Of a buffer that begins at a page, and doesn't lie in RAM, the first page that doesn't.
+// Returns the first page outside RAM of a buffer that begins at a page and is not entirely in RAM.
 fn mend_buffer<P: Room<KeptPage> + Drop>(
     owners: &PageTable<P>,
     base: Address,
@@ -170,7 +171,7 @@ fn mend_buffer<P: Room<KeptPage> + Drop>(
     }
 }
 
-// Whether a range lies in RAM.
+// Whether a range is entirely in RAM.
 fn is_inside<P: Room<KeptPage> + Drop>(owners: &PageTable<P>, base: Address, range: Range) -> bool
     ensures { result ≡ is_inside (ownership_in owners.now base.0) range }
 {
@@ -180,7 +181,7 @@ fn is_inside<P: Room<KeptPage> + Drop>(owners: &PageTable<P>, base: Address, ran
     start <= range.address && behind <= u128::from(end)
 }
 
-// The first page outside RAM of a range that doesn't lie in it.
+// Returns the address of the first page outside RAM, of a range that is not entirely in RAM.
 fn outside_of<P: Room<KeptPage> + Drop>(owners: &PageTable<P>, base: Address, range: Range) -> u64
     ensures { result ≡ outside_of (ownership_in owners.now base.0) range }
 {

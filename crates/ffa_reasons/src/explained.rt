@@ -8,7 +8,7 @@ use ffa_playable::{Explanation, Playable, Readable};
 use ffa_spmc::{Inline, Machine, Store};
 use ffa_tlb::{NoTlb, Translations};
 
-/// A machine that tells why it refuses.
+/// A machine that explains why it refuses an operation.
 // It is a wrapper, because only the crate of a trait or of a type may implement the trait for the type.
 #[derive(Drop)]
 pub struct Explained<M: PhysMem + Drop, T: Translations + Drop = NoTlb, S: Store = Inline>(

@@ -1,5 +1,5 @@
 // SPDX-License-Identifier: MIT OR Apache-2.0
-//! The fault of an access of the runner, what stands in the way, and by what an endpoint has its access.
+//! The fault of an access of the runner, its obstacle, and what gives an endpoint its access.
 ghost use Rattle.std.specs.Prelude.{◌≡◌, ◌<◌, length, nat_lt};
 ghost use Rattle.std.specs.Option.{option_map};
 ghost use Rattle.ffa_model.specs.declared.endpoint.PageNo.{PageNo};
@@ -17,14 +17,14 @@ use ffa_spmc::Store;
 use ffa_tlb::Translations;
 
 impl<M: PhysMem + Drop, T: Translations + Drop, S: Store> Reasons<'_, M, T, S> {
-    // The fault of a load.
+    // Returns the fault of a load.
     pub(crate) fn load_fault(&self, addr: u64, size: Size) -> Option<FaultKind>
         ensures { result ≡ read_fault self.now addr (size_of size) }
     {
         fault_of(addr % size.bytes() == 0, self.access_at(addr), true)
     }
 
-    // Of a store.
+    // Returns the fault of a store.
     pub(crate) fn store_fault(&self, addr: u64, size: Size) -> Option<FaultKind>
         ensures { result ≡ store_fault self.now addr (size_of size) }
     {
@@ -32,7 +32,7 @@ impl<M: PhysMem + Drop, T: Translations + Drop, S: Store> Reasons<'_, M, T, S> {
         fault_of(addr % size.bytes() == 0, right, may_store(right))
     }
 
-    // Of a fetch.
+    // Returns the fault of a fetch.
     pub(crate) fn fetch_fault(&self, addr: u64) -> Option<FaultKind>
         ensures { result ≡ fetch_fault self.now addr }
     {
@@ -40,7 +40,7 @@ impl<M: PhysMem + Drop, T: Translations + Drop, S: Store> Reasons<'_, M, T, S> {
         fault_of(addr % 4 == 0, right, may_fetch(right))
     }
 
-    // The runner's right at an address.
+    // Returns the runner's right at an address.
     pub(crate) fn access_at(&self, addr: u64) -> Option<Rights>
         ensures { result ≡ access_at self.now self.now.runner addr }
     {
@@ -50,7 +50,7 @@ impl<M: PhysMem + Drop, T: Translations + Drop, S: Store> Reasons<'_, M, T, S> {
         }
     }
 
-    // The page of an address, counted from RAM's first: none below RAM, and none from 2^32 on.
+    // Returns the page of an address, counted from RAM's first page. Returns `None` below RAM, and from 2^32 on.
     fn page_of(&self, addr: u64) -> Option<PageNo>
         ensures { option_map (λ (page : PageNo). page.0) result ≡ page_of_address self.now addr }
     {
@@ -62,7 +62,7 @@ impl<M: PhysMem + Drop, T: Translations + Drop, S: Store> Reasons<'_, M, T, S> {
         }
     }
 
-    // What stands in the way of an address, for a translation fault below 2^32.
+    // Returns the obstacle at an address, for a translation fault below 2^32.
     pub(crate) fn obstacle(&self, addr: u64, kind: FaultKind) -> Option<Obstacle>
         ensures { result ≡ obstacle_of self.now addr kind }
     {
@@ -75,7 +75,7 @@ impl<M: PhysMem + Drop, T: Translations + Drop, S: Store> Reasons<'_, M, T, S> {
         }
     }
 
-    // And of a page.
+    // Returns the obstacle at a page.
     pub(crate) fn obstacle_at(&self, page: PageNo) -> Obstacle
         ensures { result ≡ obstacle_at self.now page.0 }
     {
@@ -92,14 +92,14 @@ impl<M: PhysMem + Drop, T: Translations + Drop, S: Store> Reasons<'_, M, T, S> {
         Obstacle::OwnedBy(owner)
     }
 
-    // Whether a page is one of RAM.
+    // Whether a page is in RAM.
     fn is_in_ram(&self, page: PageNo) -> bool
         ensures { result ≡ nat_lt page.0 (length self.now.pages) }
     {
         page.0 < self.machine.ram().pages()
     }
 
-    // By what an endpoint has its access to a page, if it has one.
+    // Returns what gives an endpoint its access to a page, if it has access.
     pub(crate) fn grant_of(&self, endpoint: EndpointId, page: PageNo) -> Option<Grant>
         ensures { result ≡ granted self.now endpoint.0 page.0 }
     {
@@ -115,7 +115,7 @@ impl<M: PhysMem + Drop, T: Translations + Drop, S: Store> Reasons<'_, M, T, S> {
         Some(Grant::Shared(handle))
     }
 
-    // Whether an endpoint holds the open transaction in which a page stands.
+    // Whether an endpoint holds the open transaction that a page is in.
     fn is_held_at(&self, endpoint: EndpointId, page: PageNo) -> bool
         requires { page.0 < length self.now.pages }
         ensures { result ≡ is_held_by endpoint.0 (transaction_at self.now page.0) }
@@ -123,7 +123,7 @@ impl<M: PhysMem + Drop, T: Translations + Drop, S: Store> Reasons<'_, M, T, S> {
         self.parts.pool.is_held_at(self.parts.pages, endpoint, page)
     }
 
-    // The most that an endpoint may still get of the open transaction in which a page stands.
+    // Returns the most that an endpoint may still get of the open transaction that a page is in.
     pub(crate) fn offered(&self, endpoint: EndpointId, page: PageNo) -> Option<Rights>
         requires { page.0 < length self.now.pages }
         ensures { result ≡ offered self.now endpoint.0 page.0 }
@@ -134,7 +134,7 @@ impl<M: PhysMem + Drop, T: Translations + Drop, S: Store> Reasons<'_, M, T, S> {
     }
 }
 
-// The fault of an access, if there is one: alignment, then translation, then permission.
+// Returns the fault of an access, if there is one: alignment, then translation, then permission.
 fn fault_of(is_aligned: bool, right: Option<Rights>, is_allowed: bool) -> Option<FaultKind>
     ensures { result ≡ fault_of is_aligned right (λ _. is_allowed) }
 {
@@ -159,7 +159,7 @@ fn may_store(right: Option<Rights>) -> bool
     }
 }
 
-// And fetch.
+// Whether a right lets its endpoint fetch.
 fn may_fetch(right: Option<Rights>) -> bool
     ensures { result ≡ may_fetch right }
 {

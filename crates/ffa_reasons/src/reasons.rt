@@ -1,5 +1,5 @@
 // SPDX-License-Identifier: MIT OR Apache-2.0
-//! A machine that is asked for reasons.
+//! A machine for which reasons are found.
 ghost use Rattle.std.specs.Prelude.{◌≡◌};
 ghost use Rattle.ffa_model.specs.Access.{access};
 ghost use Rattle.ffa_model.specs.State.{version_of};
@@ -42,28 +42,29 @@ impl<'a, M: PhysMem + Drop, T: Translations + Drop, S: Store> Reasons<'a, M, T, 
         }
     }
 
-    // The endpoint that runs.
+    // Returns the endpoint that runs.
     pub(crate) fn runner(&self) -> EndpointId
         ensures { result.0 ≡ self.now.runner }
     {
         self.machine.runner()
     }
 
-    // The right of an endpoint to a page: nothing outside the RAM, or for an endpoint that isn't there.
+    // Returns the right of an endpoint to a page. Returns `None` outside RAM, and for an endpoint that the machine does
+    // not have.
     pub(crate) fn access(&self, endpoint: EndpointId, page: PageNo) -> Option<Rights>
         ensures { result ≡ access self.now endpoint.0 page.0 }
     {
         self.machine.access(endpoint, page)
     }
 
-    // The version of FF-A that the machine serves.
+    // Returns the version of FF-A that the machine serves.
     pub(crate) fn ffa(&self) -> Ffa
         ensures { result ≡ self.now.ffa }
     {
         self.parts.manifest.ffa
     }
 
-    // The form in which the runner writes and reads descriptors.
+    // Returns the form in which the runner writes and reads descriptors.
     pub(crate) fn version(&self) -> Version
         ensures { result ≡ version_of self.now self.now.runner }
     {

@@ -1,5 +1,5 @@
 // SPDX-License-Identifier: MIT OR Apache-2.0
-//! The first check of a call of the runner that fails: each call is asked by the check that it makes itself.
+//! Finds the first check of a call of the runner that fails, by the checks that the calls themselves make.
 ghost use Rattle.std.specs.Prelude.{◌≡◌, ◌∷◌, [], ◌||◌, Bool, None, not};
 ghost use Rattle.std.specs.Option.{option_map};
 ghost use Rattle.ffa_mend.specs.Explained.{explained};
@@ -23,7 +23,7 @@ use ffa_spmc::Store;
 use ffa_tlb::Translations;
 
 impl<M: PhysMem + Drop, T: Translations + Drop, S: Store> Reasons<'_, M, T, S> {
-    // The first check of a call that fails, with what the call names. Each arm asks the check of its call.
+    // Returns the first check of a call that fails, with what the call names. Each arm uses the check of its call.
     pub(crate) fn refusal(&self, call: Call) -> Option<(Refusal, Explained)>
         ensures { result ≡ with_told self.now call (first_refusal (service self.now call).guards) }
     {
@@ -65,7 +65,7 @@ impl<M: PhysMem + Drop, T: Translations + Drop, S: Store> Reasons<'_, M, T, S> {
         }
     }
 
-    // Of FFA_FEATURES.
+    // Returns the check of FFA_FEATURES that fails.
     fn features_refusal(&self, function: u32) -> Option<Refusal>
         ensures { result ≡ first_refusal (features self.now function).guards }
     {
@@ -74,7 +74,7 @@ impl<M: PhysMem + Drop, T: Translations + Drop, S: Store> Reasons<'_, M, T, S> {
         ffa_setup::check_features(function, ffa, runner).err()
     }
 
-    // Of FFA_RX_RELEASE.
+    // Returns the check of FFA_RX_RELEASE that fails.
     fn rx_release_refusal(&self) -> Option<Refusal>
         ensures { result ≡ first_refusal (rx_release self.now).guards }
     {
@@ -82,7 +82,7 @@ impl<M: PhysMem + Drop, T: Translations + Drop, S: Store> Reasons<'_, M, T, S> {
         self.parts.buffers.check_release(runner).err()
     }
 
-    // Of FFA_RXTX_MAP.
+    // Returns the first check of FFA_RXTX_MAP that fails.
     pub(crate) fn rxtx_map_refusal(&self, tx: u64, rx: u64, pages: u32) -> Option<Refusal>
         ensures { result ≡ first_refusal (rxtx_map self.now tx rx pages).guards }
     {
@@ -95,7 +95,7 @@ impl<M: PhysMem + Drop, T: Translations + Drop, S: Store> Reasons<'_, M, T, S> {
         found.err()
     }
 
-    // Of FFA_RXTX_UNMAP.
+    // Returns the first check of FFA_RXTX_UNMAP that fails.
     fn rxtx_unmap_refusal(&self, endpoint: u32) -> Option<Refusal>
         ensures { result ≡ first_refusal (rxtx_unmap self.now endpoint).guards }
     {
@@ -103,7 +103,7 @@ impl<M: PhysMem + Drop, T: Translations + Drop, S: Store> Reasons<'_, M, T, S> {
         self.parts.buffers.check_unmap(runner, endpoint).err()
     }
 
-    // Of FFA_PARTITION_INFO_GET.
+    // Returns the first check of FFA_PARTITION_INFO_GET that fails.
     fn info_refusal(&self, uuid: [u32; 4], flags: u32) -> Option<Refusal>
         ensures { result ≡ first_refusal (info_guards self.now (uuid_bytes uuid) flags) }
     {
@@ -119,42 +119,42 @@ impl<M: PhysMem + Drop, T: Translations + Drop, S: Store> Reasons<'_, M, T, S> {
         )
     }
 
-    // Of FFA_MSG_WAIT, with any flags.
+    // Returns the check of FFA_MSG_WAIT that fails, with any flags.
     fn msg_wait_refusal(&self) -> Option<Refusal>
         ensures { result ≡ first_refusal (wait_guards (schedule_of self.now)) }
     {
         self.parts.chain.check_wait().err()
     }
 
-    // Of FFA_YIELD.
+    // Returns the check of FFA_YIELD that fails.
     fn yield_refusal(&self) -> Option<Refusal>
         ensures { result ≡ first_refusal (yield_now self.now).guards }
     {
         self.parts.chain.check_yield().err()
     }
 
-    // Of FFA_RUN.
+    // Returns the first check of FFA_RUN that fails.
     fn run_refusal(&self, target: EndpointId, context: u16) -> Option<Refusal>
         ensures { result ≡ first_refusal (run_partition self.now target.0 context).guards }
     {
         self.parts.chain.check_run(target, context).err()
     }
 
-    // Of FFA_MSG_SEND_DIRECT_REQ.
+    // Returns the first check of FFA_MSG_SEND_DIRECT_REQ that fails.
     fn direct_request_refusal(&self, message: &DirectMessage) -> Option<Refusal>
         ensures { result ≡ first_refusal (direct_request self.now message.now).guards }
     {
         check_direct_req(self.parts.chain, self.parts.manifest, message).err()
     }
 
-    // Of FFA_MSG_SEND_DIRECT_RESP.
+    // Returns the first check of FFA_MSG_SEND_DIRECT_RESP that fails.
     fn direct_response_refusal(&self, message: &DirectMessage) -> Option<Refusal>
         ensures { result ≡ first_refusal (direct_response self.now message.now).guards }
     {
         check_direct_resp(self.parts.chain, message).err()
     }
 
-    // Of FFA_MSG_SEND2.
+    // Returns the first check of FFA_MSG_SEND2 that fails.
     pub(crate) fn msg_send2_refusal(&self) -> Option<Refusal>
         ensures { result ≡ first_refusal (msg_send2 self.now).guards }
     {
@@ -164,7 +164,7 @@ impl<M: PhysMem + Drop, T: Translations + Drop, S: Store> Reasons<'_, M, T, S> {
         check_send2(parts.ram, parts.buffers, parts.manifest, version, runner).err()
     }
 
-    // Of FFA_MEM_RECLAIM.
+    // Returns the first check of FFA_MEM_RECLAIM that fails.
     pub(crate) fn mem_reclaim_refusal(&self, handle: Handle, flags: u32) -> Option<Refusal>
         ensures { result ≡ first_refusal (memory_reclaim self.now handle.0 flags).guards }
     {
@@ -177,7 +177,7 @@ impl<M: PhysMem + Drop, T: Translations + Drop, S: Store> Reasons<'_, M, T, S> {
         found.err()
     }
 
-    // Of FFA_NOTIFICATION_BITMAP_CREATE.
+    // Returns the first check of FFA_NOTIFICATION_BITMAP_CREATE that fails.
     fn bitmap_create_refusal(&self, endpoint: u32, contexts: u32) -> Option<Refusal>
         ensures { result ≡ first_refusal (bitmap_create self.now endpoint contexts).guards }
     {
@@ -187,7 +187,7 @@ impl<M: PhysMem + Drop, T: Translations + Drop, S: Store> Reasons<'_, M, T, S> {
         bitmaps.check_create(ffa, runner, endpoint, contexts).err()
     }
 
-    // Of FFA_NOTIFICATION_BITMAP_DESTROY.
+    // Returns the first check of FFA_NOTIFICATION_BITMAP_DESTROY that fails.
     fn bitmap_destroy_refusal(&self, endpoint: u32) -> Option<Refusal>
         ensures { result ≡ first_refusal (bitmap_destroy self.now endpoint).guards }
     {
@@ -195,7 +195,7 @@ impl<M: PhysMem + Drop, T: Translations + Drop, S: Store> Reasons<'_, M, T, S> {
         self.parts.bitmaps.check_destroy(runner, endpoint).err()
     }
 
-    // Of FFA_NOTIFICATION_BIND.
+    // Returns the first check of FFA_NOTIFICATION_BIND that fails.
     fn bind_refusal(&self, bits: &NotificationBits) -> Option<Refusal>
         ensures { result ≡ first_refusal (notification_bind self.now bits.now).guards }
     {
@@ -203,7 +203,7 @@ impl<M: PhysMem + Drop, T: Translations + Drop, S: Store> Reasons<'_, M, T, S> {
         self.parts.bitmaps.check_bind(runner, bits).err()
     }
 
-    // Of FFA_NOTIFICATION_UNBIND.
+    // Returns the first check of FFA_NOTIFICATION_UNBIND that fails.
     fn unbind_refusal(&self, bits: &NotificationBits) -> Option<Refusal>
         ensures { result ≡ first_refusal (notification_unbind self.now bits.now).guards }
     {
@@ -211,7 +211,7 @@ impl<M: PhysMem + Drop, T: Translations + Drop, S: Store> Reasons<'_, M, T, S> {
         self.parts.bitmaps.check_unbind(runner, bits).err()
     }
 
-    // Of FFA_NOTIFICATION_SET.
+    // Returns the first check of FFA_NOTIFICATION_SET that fails.
     fn set_refusal(&self, bits: &NotificationBits) -> Option<Refusal>
         ensures { result ≡ first_refusal (notification_set self.now bits.now).guards }
     {
@@ -219,7 +219,7 @@ impl<M: PhysMem + Drop, T: Translations + Drop, S: Store> Reasons<'_, M, T, S> {
         self.parts.bitmaps.check_set(runner, bits).err()
     }
 
-    // Of FFA_NOTIFICATION_GET.
+    // Returns the first check of FFA_NOTIFICATION_GET that fails.
     fn notification_get_refusal(
         &self,
         receiver: EndpointId,
@@ -236,7 +236,7 @@ impl<M: PhysMem + Drop, T: Translations + Drop, S: Store> Reasons<'_, M, T, S> {
             .err()
     }
 
-    // Of FFA_NOTIFICATION_INFO_GET, in either form.
+    // Returns the first check of FFA_NOTIFICATION_INFO_GET that fails, in either form.
     fn notice_refusal(&self) -> Option<Refusal>
         ensures { (is_wide : Bool) → result ≡ first_refusal (notification_info_get self.now is_wide).guards }
     {
@@ -246,15 +246,15 @@ impl<M: PhysMem + Drop, T: Translations + Drop, S: Store> Reasons<'_, M, T, S> {
     }
 }
 
-// A check that fails of a call that names nothing more.
+// Returns the failed check of a call that names nothing more.
 fn bare(refusal: Option<Refusal>) -> Option<(Refusal, Explained)>
     ensures { result ≡ option_map (λ refusal. (refusal, explained None None None)) refusal }
 {
     Some((refusal?, Explained::of(None, None)))
 }
 
-// The first check of FFA_PARTITION_INFO_GET that fails, by whether its UUID is recognized, the count alone is asked for, and
-// the caller has buffers, with a full RX.
+// Returns the first check of FFA_PARTITION_INFO_GET that fails. It depends on whether the UUID is recognized, whether
+// the call requests only the count, and whether the caller has buffers, with a full RX.
 fn info_refusal(
     ffa: Ffa,
     is_recognized: bool,
@@ -280,7 +280,7 @@ fn info_refusal(
     }
 }
 
-// Whether a request for partition information asks for the count alone.
+// Whether a request for partition information requests only the count.
 fn is_count_alone(flags: u32) -> bool
     ensures { result ≡ is_count_alone flags }
 {

@@ -1,5 +1,5 @@
 // SPDX-License-Identifier: MIT OR Apache-2.0
-//! What a check that fails is about, where the call's registers tell it (DEN0077A, 11 to 16).
+//! Finds what a failed check is about, if the call's registers say it (DEN0077A, 11 to 16).
 ghost use Rattle.std.specs.Prelude.{◌≡◌, Bool};
 ghost use Rattle.ffa_model.specs.declared.call.Call.{Call};
 ghost use Rattle.ffa_model.specs.AboutRegisters.{about_registers, in_register, registers_of_bind, registers_of_create, registers_of_destroy, registers_of_get, registers_of_map, registers_of_reclaim, registers_of_request, registers_of_response, registers_of_run, registers_of_set, registers_of_transfer, registers_of_unmap};
@@ -9,8 +9,8 @@ use ffa_model::{
     About, Call, DirectMessage, EndpointId, Handle, NotificationBits, Refusal, Transfer,
 };
 
-// What a check of a call that fails is about, where its registers tell it: a register, an endpoint that one names, or a
-// handle. The number is that of the function, in w0.
+// Returns what a failed check of a call is about, if the call's registers say it: a register, an endpoint that a
+// register names, or a handle. `number` is the number of the function, in w0.
 pub(crate) fn about_registers(number: u32, call: &Call, refusal: Refusal) -> Option<About>
     ensures { result ≡ about_registers number call.now refusal }
 {
@@ -42,7 +42,7 @@ pub(crate) fn about_registers(number: u32, call: &Call, refusal: Refusal) -> Opt
     }
 }
 
-// Of FFA_RXTX_MAP.
+// Does what `about_registers` does, for FFA_RXTX_MAP.
 fn of_map(tx: u64, rx: u64, pages: u32, refusal: Refusal) -> Option<About>
     ensures { result ≡ registers_of_map tx rx pages refusal }
 {
@@ -55,7 +55,7 @@ fn of_map(tx: u64, rx: u64, pages: u32, refusal: Refusal) -> Option<About>
     }
 }
 
-// Of FFA_RXTX_UNMAP.
+// Does what `about_registers` does, for FFA_RXTX_UNMAP.
 fn of_unmap(endpoint: u32, refusal: Refusal) -> Option<About>
     ensures { result ≡ registers_of_unmap endpoint refusal }
 {
@@ -65,7 +65,7 @@ fn of_unmap(endpoint: u32, refusal: Refusal) -> Option<About>
     }
 }
 
-// Of FFA_RUN.
+// Does what `about_registers` does, for FFA_RUN.
 fn of_run(target: EndpointId, context: u16, refusal: Refusal) -> Option<About>
     ensures { result ≡ registers_of_run target context refusal }
 {
@@ -77,7 +77,7 @@ fn of_run(target: EndpointId, context: u16, refusal: Refusal) -> Option<About>
     }
 }
 
-// Of FFA_MSG_SEND_DIRECT_REQ.
+// Does what `about_registers` does, for FFA_MSG_SEND_DIRECT_REQ.
 fn of_request(message: &DirectMessage, refusal: Refusal) -> Option<About>
     ensures { result ≡ registers_of_request message.now refusal }
 {
@@ -93,7 +93,7 @@ fn of_request(message: &DirectMessage, refusal: Refusal) -> Option<About>
     }
 }
 
-// Of FFA_MSG_SEND_DIRECT_RESP.
+// Does what `about_registers` does, for FFA_MSG_SEND_DIRECT_RESP.
 fn of_response(message: &DirectMessage, refusal: Refusal) -> Option<About>
     ensures { result ≡ registers_of_response message.now refusal }
 {
@@ -104,14 +104,14 @@ fn of_response(message: &DirectMessage, refusal: Refusal) -> Option<About>
     }
 }
 
-// The word that names the ends of a direct message.
+// Returns the word that names the ends of a direct message.
 fn ends_of(message: &DirectMessage) -> u64
     ensures { result ≡ word_of_two message.now.sender.0 message.now.receiver.0 }
 {
     u64::from(word_of_two(message.sender.0, message.receiver.0))
 }
 
-// Of a call whose descriptor stands in TX.
+// Does what `about_registers` does, for a call whose descriptor is in TX.
 fn of_transfer(transfer: &Transfer, refusal: Refusal) -> Option<About>
     ensures { result ≡ registers_of_transfer transfer.now refusal }
 {
@@ -124,7 +124,7 @@ fn of_transfer(transfer: &Transfer, refusal: Refusal) -> Option<About>
     }
 }
 
-// Of FFA_MEM_RECLAIM.
+// Does what `about_registers` does, for FFA_MEM_RECLAIM.
 fn of_reclaim(handle: Handle, flags: u32, refusal: Refusal) -> Option<About>
     ensures { result ≡ registers_of_reclaim handle flags refusal }
 {
@@ -136,7 +136,7 @@ fn of_reclaim(handle: Handle, flags: u32, refusal: Refusal) -> Option<About>
     }
 }
 
-// Of FFA_NOTIFICATION_BITMAP_CREATE.
+// Does what `about_registers` does, for FFA_NOTIFICATION_BITMAP_CREATE.
 fn of_create(endpoint: u32, contexts: u32, refusal: Refusal) -> Option<About>
     ensures { result ≡ registers_of_create endpoint contexts refusal }
 {
@@ -147,7 +147,7 @@ fn of_create(endpoint: u32, contexts: u32, refusal: Refusal) -> Option<About>
     }
 }
 
-// Of FFA_NOTIFICATION_BITMAP_DESTROY.
+// Does what `about_registers` does, for FFA_NOTIFICATION_BITMAP_DESTROY.
 fn of_destroy(endpoint: u32, refusal: Refusal) -> Option<About>
     ensures { result ≡ registers_of_destroy endpoint refusal }
 {
@@ -157,7 +157,7 @@ fn of_destroy(endpoint: u32, refusal: Refusal) -> Option<About>
     }
 }
 
-// Of FFA_NOTIFICATION_BIND and FFA_NOTIFICATION_UNBIND.
+// Does what `about_registers` does, for FFA_NOTIFICATION_BIND and FFA_NOTIFICATION_UNBIND.
 fn of_bind(bits: &NotificationBits, refusal: Refusal) -> Option<About>
     ensures { result ≡ registers_of_bind bits.now refusal }
 {
@@ -170,7 +170,7 @@ fn of_bind(bits: &NotificationBits, refusal: Refusal) -> Option<About>
     }
 }
 
-// Of FFA_NOTIFICATION_SET.
+// Does what `about_registers` does, for FFA_NOTIFICATION_SET.
 fn of_set(bits: &NotificationBits, refusal: Refusal) -> Option<About>
     ensures { result ≡ registers_of_set bits.now refusal }
 {
@@ -183,7 +183,7 @@ fn of_set(bits: &NotificationBits, refusal: Refusal) -> Option<About>
     }
 }
 
-// Of FFA_NOTIFICATION_GET.
+// Does what `about_registers` does, for FFA_NOTIFICATION_GET.
 fn of_get(receiver: EndpointId, context: u16, flags: u32, refusal: Refusal) -> Option<About>
     ensures { result ≡ registers_of_get receiver context flags refusal }
 {
@@ -195,7 +195,7 @@ fn of_get(receiver: EndpointId, context: u16, flags: u32, refusal: Refusal) -> O
     }
 }
 
-// Of FFA_NOTIFICATION_INFO_GET, whose function's number stands in w0.
+// Does what `about_registers` does, for FFA_NOTIFICATION_INFO_GET, whose function's number is in w0.
 fn of_info(number: u32, refusal: Refusal) -> Option<About>
     ensures { (is_wide : Bool) → result ≡ about_registers number (Call.NotificationInfoGet is_wide) refusal }
 {
@@ -205,14 +205,14 @@ fn of_info(number: u32, refusal: Refusal) -> Option<About>
     }
 }
 
-// A register by its number.
+// Returns a register by its number, with its value.
 fn register(register: u32, value: u64) -> Option<About>
     ensures { result ≡ in_register register value }
 {
     Some(About::Register { register, value })
 }
 
-// The word of two halves.
+// Returns the word of two halves.
 fn word_of_two(high: u16, low: u16) -> u32
     ensures { result ≡ word_of_two high low }
 {

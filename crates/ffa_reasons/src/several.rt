@@ -11,7 +11,8 @@ use ffa_spmc::{Cluster, Inline, Store};
 use ffa_tlb::{NoTlb, Translations};
 use std::marker::Model;
 
-/// A machine of several processors that tells why it refuses, with how many of them a trace may name.
+/// A machine of several processors that explains why it refuses an operation, and the number of processors that a trace
+/// may name.
 #[derive(Drop)]
 pub struct ExplainedCluster<M: PhysMem + Drop, T: Translations + Drop = NoTlb, S: Store = Inline> {
     cluster: Cluster<M, T, S>,
@@ -38,7 +39,8 @@ impl<M: PhysMem + Drop, T: Translations + Drop, S: Store> Model for ExplainedClu
 }
 
 impl<M: PhysMem + Drop, T: Translations + Drop, S: Store> ExplainedCluster<M, T, S> {
-    /// The machine, of which a trace may name so many processors, from 0 on. The others stay as they are.
+    /// Makes the machine from a cluster. A trace may name `count` of its processors, from 0 on. The other processors
+    /// stay as they are.
     pub fn of(cluster: Cluster<M, T, S>, count: usize) -> ExplainedCluster<M, T, S>
         requires { count ≤ MOST_PROCESSORS }
         ensures { result ≡ record {

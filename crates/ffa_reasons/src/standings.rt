@@ -1,5 +1,5 @@
 // SPDX-License-Identifier: MIT OR Apache-2.0
-//! How that stands which a check of a call that fails is about. Nothing is changed, and no memory is taken.
+//! Finds the state of the thing that a failed check of a call is about. It changes nothing and allocates nothing.
 ghost use Rattle.std.specs.Prelude.{◌≡◌, ◌≤◌, length};
 ghost use Rattle.ffa_model.specs.declared.limits.TheConstants.{MOST_ENDPOINTS};
 ghost use Rattle.ffa_model.specs.RunStates.{schedule_of};
@@ -14,7 +14,7 @@ use ffa_spmc::Store;
 use ffa_tlb::Translations;
 
 impl<M: PhysMem + Drop, T: Translations + Drop, S: Store> Reasons<'_, M, T, S> {
-    // Of a check of a call.
+    // Returns the state of the thing that a check of a call is about.
     pub(crate) fn standing_of_check(
         &self,
         refusal: Refusal,
@@ -28,7 +28,7 @@ impl<M: PhysMem + Drop, T: Translations + Drop, S: Store> Reasons<'_, M, T, S> {
         }
     }
 
-    // Of an endpoint that is named.
+    // Returns the state of an endpoint that the call names.
     fn standing_of_endpoint(&self, refusal: Refusal, endpoint: EndpointId) -> Option<Standing>
         ensures { result ≡ standing_of_endpoint self.now refusal endpoint.0 }
     {
@@ -38,7 +38,7 @@ impl<M: PhysMem + Drop, T: Translations + Drop, S: Store> Reasons<'_, M, T, S> {
         }
     }
 
-    // The run state of an endpoint, and whose answer it awaits.
+    // Returns the run state of an endpoint, and the endpoint whose answer it awaits.
     fn run_state(&self, endpoint: EndpointId) -> Standing
         ensures { result ≡ run_state (length self.now.parties) (schedule_of self.now) endpoint.0 }
     {
@@ -47,7 +47,8 @@ impl<M: PhysMem + Drop, T: Translations + Drop, S: Store> Reasons<'_, M, T, S> {
     }
 }
 
-// The same in these chains of so many endpoints.
+// Returns the run state of an endpoint in these chains of `endpoints` endpoints, and the endpoint whose answer it
+// awaits.
 fn run_state(chain: &Chain, endpoints: usize, endpoint: EndpointId) -> Standing
     requires { endpoints ≤ MOST_ENDPOINTS }
     ensures { result ≡ run_state endpoints chain.now endpoint.0 }
@@ -58,7 +59,7 @@ fn run_state(chain: &Chain, endpoints: usize, endpoint: EndpointId) -> Standing
     }
 }
 
-// The endpoint that works on a direct request of another, if one does.
+// Returns the endpoint that works on a direct request of another, if there is one.
 fn awaited(chain: &Chain, endpoints: usize, sender: EndpointId) -> Option<EndpointId>
     requires { endpoints ≤ MOST_ENDPOINTS }
     ensures { result ≡ awaited endpoints chain.now sender.0 }

@@ -1,6 +1,6 @@
 // SPDX-License-Identifier: MIT OR Apache-2.0
-//! Why an operation of the runner would be refused now, by what an endpoint has its access to a page, and what it may still
-//! retrieve.
+//! Finds why an operation of the runner would be refused now, what gives an endpoint its access to a page, and what an
+//! endpoint may still retrieve.
 ghost use Rattle.std.specs.Prelude.{◌≡◌, ◌<◌, ◌↔◌, IfSome, IsTrue, None, false, is_some, length, if◌then◌else◌};
 ghost use Rattle.std.specs.Option.{option_map};
 ghost use Rattle.ffa_model.specs.Access.{access};
@@ -27,18 +27,22 @@ use ffa_playable::{Detail, Explanation, Standing};
 use ffa_spmc::{Machine, Store};
 use ffa_tlb::Translations;
 
-/// Why an operation of the runner is refused: of a call the first check that fails, with what it is about, where that is a
-/// register, an endpoint or a handle that registers, a message's header or a descriptor name, the first condition that a
-/// descriptor breaks, a bit or a page, and nothing for other checks; and of an access its fault, with what stands in the way.
-/// With it what to change, or the run state of the endpoint, or the values that may be there. `Machine::op` does the operation where this answers nothing. It changes nothing and takes no memory.
+/// Returns why an operation of the runner is refused, or `None` if `Machine::op` does the operation. It changes nothing
+/// and allocates nothing.
+///
+/// For a call, the reason is the first check that fails. It comes with the thing that the check is about, if that is a
+/// register, a bit or a page, or the first condition that a descriptor breaks. It can also be an endpoint or a handle,
+/// which registers, a message's header or a descriptor name. Other checks come without such a thing. For an access, the
+/// reason is its fault, with its obstacle. The explanation also says what to change, the run state of the endpoint, or
+/// the values that may be there.
 pub fn why<M: PhysMem + Drop, T: Translations + Drop, S: Store>(
     machine: &Machine<M, T, S>,
     op: &Op,
 ) -> Option<Explanation>
     ensures why { option_map (λ its. its.why) result ≡ why machine.now.state op.now }
     ensures detail { IfSome result (λ its. its.detail ≡ detail machine.now.state op.now its.why) }
-    // There is a reason just where the operation is refused, and it says what the runner sees: FFA_ERROR with the code of
-    // the check, or the fault.
+    // There is a reason exactly if the operation is refused. The reason says what the runner sees: FFA_ERROR with the
+    // code of the check, or the fault.
     ensures refused { is_some result ≡ is_refusal (step machine.now.state op.now).outcome }
     ensures outcome { IfSome result (λ its. (step machine.now.state op.now).outcome
         ≡ outcome_of machine.now.state its.why) }
@@ -46,8 +50,9 @@ pub fn why<M: PhysMem + Drop, T: Translations + Drop, S: Store>(
     Reasons::of(machine).why(op)
 }
 
-/// The same where partitions may be preempted: FFA_RUN of one that was lets it go on, and isn't refused.
-/// `Cluster::op` does the operation where this answers nothing. It changes nothing and takes no memory.
+/// Returns why an operation of the runner is refused where partitions may be preempted, or `None` if `Cluster::op` does
+/// the operation. FFA_RUN of a preempted partition lets it continue, and is not refused. Otherwise the explanation is
+/// what `why` returns. It changes nothing and allocates nothing.
 pub fn why_resuming<M: PhysMem + Drop, T: Translations + Drop, S: Store>(
     machine: &Machine<M, T, S>,
     op: &Op,
@@ -66,8 +71,8 @@ pub fn why_resuming<M: PhysMem + Drop, T: Translations + Drop, S: Store>(
     }
 }
 
-/// By what an endpoint has its access to a page: its own page, or the open transaction by which it has it. Nothing outside
-/// the RAM, or for an endpoint that isn't there.
+/// Returns what gives an endpoint its access to a page: that it owns the page, or the open transaction by which it has
+/// access. Returns `None` outside RAM, and for an endpoint that the machine does not have.
 pub fn grant_of<M: PhysMem + Drop, T: Translations + Drop, S: Store>(
     machine: &Machine<M, T, S>,
     endpoint: EndpointId,
@@ -79,8 +84,8 @@ pub fn grant_of<M: PhysMem + Drop, T: Translations + Drop, S: Store>(
     Reasons::of(machine).grant_of(endpoint, page)
 }
 
-/// The most that an endpoint may still get of the open transaction in which a page stands, if it may retrieve that: it is among
-/// the receivers, and doesn't hold it.
+/// Returns the most that an endpoint may still get of the open transaction that a page is in. Returns `None` if the
+/// endpoint may not retrieve it, because it is not a receiver or holds the transaction already.
 pub fn offered<M: PhysMem + Drop, T: Translations + Drop, S: Store>(
     machine: &Machine<M, T, S>,
     endpoint: EndpointId,
@@ -92,7 +97,7 @@ pub fn offered<M: PhysMem + Drop, T: Translations + Drop, S: Store>(
     Reasons::of(machine).offered(endpoint, page)
 }
 
-/// Whether the tables give what runs of pages say: exactly if the runs give the state's access.
+/// Whether the tables give what runs of pages say, which is true exactly if the runs give the state's access.
 pub(crate) fn audit<M: PhysMem + Drop, T: Translations + Drop, S: Store>(
     machine: &Machine<M, T, S>,
     runs: &[CertRun],
@@ -106,7 +111,7 @@ pub(crate) fn audit<M: PhysMem + Drop, T: Translations + Drop, S: Store>(
 }
 
 impl<M: PhysMem + Drop, T: Translations + Drop, S: Store> Reasons<'_, M, T, S> {
-    // The reason itself.
+    // Returns why an operation is refused.
     fn why(&self, op: &Op) -> Option<Explanation>
         ensures { result ≡ explanation self.now op.now }
     {
@@ -122,7 +127,7 @@ impl<M: PhysMem + Drop, T: Translations + Drop, S: Store> Reasons<'_, M, T, S> {
         }
     }
 
-    // Whether an operation lets a preempted partition go on.
+    // Whether an operation lets a preempted partition continue.
     fn lets_go_on(&self, op: &Op) -> bool
         ensures { result ≡ is_some (resumed_by self.now op.now) }
     {
@@ -132,7 +137,7 @@ impl<M: PhysMem + Drop, T: Translations + Drop, S: Store> Reasons<'_, M, T, S> {
         }
     }
 
-    // Whether a call does.
+    // Whether a call lets a preempted partition continue.
     fn call_lets_go_on(&self, call: Call) -> bool
         ensures { result ≡ is_some (resumed_by_call self.now call) }
     {
@@ -142,7 +147,7 @@ impl<M: PhysMem + Drop, T: Translations + Drop, S: Store> Reasons<'_, M, T, S> {
         }
     }
 
-    // Of a call, in its registers.
+    // Returns why a call in its registers is refused.
     fn why_call(&self, x: [u64; 8]) -> Option<Explanation>
         ensures { result ≡ explanation self.now (Op.Call x) }
     {
@@ -151,7 +156,7 @@ impl<M: PhysMem + Drop, T: Translations + Drop, S: Store> Reasons<'_, M, T, S> {
         Some(self.explain(ffa_abi::low(x[0]), call, refusal, told))
     }
 
-    // Of a check of a call that fails, with what the call names. The number is that of the function, in w0.
+    // Explains a failed check of a call, with what the call names. `number` is the number of the function, in w0.
     fn explain(&self, number: u32, call: Call, refusal: Refusal, told: Explained) -> Explanation
         requires { told ≡ call_told self.now call refusal }
         ensures { result ≡ check_explanation self.now number call refusal }
@@ -170,7 +175,7 @@ impl<M: PhysMem + Drop, T: Translations + Drop, S: Store> Reasons<'_, M, T, S> {
         }
     }
 
-    // A fault of an access to an address, with what stands in the way.
+    // Explains the fault of an access to an address, with its obstacle.
     fn why_fault(&self, addr: u64, fault: Option<FaultKind>) -> Option<Explanation>
         ensures { result ≡ fault_explanation self.now addr fault }
     {
@@ -185,7 +190,7 @@ impl<M: PhysMem + Drop, T: Translations + Drop, S: Store> Reasons<'_, M, T, S> {
     }
 }
 
-// The detail that is told of these.
+// Returns the first of these details that there is.
 fn detail_by(
     standing: Option<Standing>,
     mend: Option<Mend>,

@@ -1,5 +1,6 @@
 // SPDX-License-Identifier: MIT OR Apache-2.0
-//! Which values a register or a field of a descriptor may have, where a check wants others. Nothing is changed, and no memory is taken.
+//! Finds the values that a register or a field of a descriptor may have, if a check requires others. It changes nothing
+//! and allocates nothing.
 ghost use Rattle.std.specs.Prelude.{◌≡◌, ℕ, ◌+◌, ◌*◌, ◌%◌, ◌≤◌, IfSome, IsSomeAnd};
 ghost use Rattle.ffa_model.specs.DescriptorPlaces.{accesses_size};
 ghost use Rattle.ffa_model.specs.SendDescriptor.{attributes_of, most_flags, most_receivers};
@@ -12,10 +13,11 @@ use ffa_model::{
     RelinquishFlaw, RetrieveFlaw, SendFlaw, Version,
 };
 
-// The attributes of normal memory, as the manager wants them.
+// The attributes of normal memory, as the manager requires them.
 const NORMAL_MEMORY: u64 = 0x2F;
 
-// Of a check of a call, where the header of a descriptor names this many receivers.
+// Returns the values that a failed check of a call allows. `receivers` is the number of receivers in the header of its
+// descriptor.
 pub(crate) fn allowed_check(
     ffa: Ffa,
     version: Version,
@@ -39,7 +41,7 @@ pub(crate) fn allowed_check(
     }
 }
 
-// Of a field of a descriptor.
+// Returns the allowed values of a field of a descriptor.
 fn allowed_field(
     ffa: Ffa,
     version: Version,
@@ -107,7 +109,7 @@ fn between(least: u64, most: u64) -> Allowed
     steps(least, most, 1)
 }
 
-// Of a register.
+// Returns the allowed values of a register.
 fn allowed_register(ffa: Ffa, call: Call, refusal: Refusal) -> Option<Allowed>
     ensures { result ≡ allowed_register ffa call refusal }
 {
@@ -136,7 +138,7 @@ fn allowed_flags(call: Call) -> Allowed
     }
 }
 
-// The same endpoint, in one of its contexts.
+// Returns the words that name the same endpoint in one of its contexts.
 fn allowed_context(ffa: Ffa, call: Call) -> Option<Allowed>
     ensures { result ≡ allowed_context ffa call }
 {
@@ -155,7 +157,7 @@ fn allowed_contexts(ffa: Ffa, endpoint: EndpointId) -> Allowed
     steps(least, last * 0x10000 + least, 0x10000)
 }
 
-// How many execution contexts an endpoint has.
+// Returns the number of execution contexts of an endpoint.
 fn contexts_of(ffa: Ffa, endpoint: EndpointId) -> u64
     ensures value { result ≡ contexts_of ffa endpoint.0 }
     ensures some { 1 ≤ result }
@@ -168,7 +170,7 @@ fn contexts_of(ffa: Ffa, endpoint: EndpointId) -> u64
     }
 }
 
-// As many bytes as the descriptor has.
+// Returns the number of bytes of the descriptor, which the fragment must have.
 fn allowed_fragment(call: Call) -> Option<Allowed>
     ensures { result ≡ allowed_fragment call }
 {
@@ -181,7 +183,8 @@ fn allowed_fragment(call: Call) -> Option<Allowed>
     }
 }
 
-// Of a field of an offer to so many receivers, if its header tells how many, in so many bytes.
+// Returns the allowed values of a field of an offer whose descriptor has `length` bytes. `receivers` is the number of
+// receivers, if the header has it.
 fn allowed_offer(
     ffa: Ffa,
     version: Version,
@@ -214,7 +217,7 @@ fn allowed_offer(
     }
 }
 
-// The memory attributes.
+// Returns the allowed memory attributes.
 fn allowed_attributes(ffa: Ffa, kind: Kind, receivers: u64) -> Allowed
     ensures { result ≡ allowed_attributes ffa kind receivers }
 {
@@ -261,7 +264,7 @@ fn allowed_permissions(kind: Kind) -> Allowed
     }
 }
 
-// By the place of the first of so many access descriptors.
+// Returns the allowed places of a composite, by the place of the first access descriptor and their number.
 fn allowed_behind(
     version: Version,
     array: u64,
@@ -274,7 +277,7 @@ fn allowed_behind(
     allowed_places(end, length)
 }
 
-// The size of so many access descriptors.
+// Returns the number of bytes of this number of access descriptors.
 fn accesses_size(version: Version, count: u64) -> u128
     ensures value { result ≡ accesses_size version count }
     ensures most { result ≤ 32 * count }
@@ -285,10 +288,11 @@ fn accesses_size(version: Version, count: u64) -> u128
     }
 }
 
-// Where a composite with one range may stand, behind access descriptors and inside so many bytes.
+// Returns the places where a composite with one range may be, after access descriptors that end at `end`, and inside
+// `length` bytes.
 fn allowed_places(end: u128, length: u32) -> Option<Allowed>
     ensures places { result ≡ allowed_places end length }
-    // Where the access descriptors end at a multiple of 16, as the header has to tell it, these are all such places.
+    // If the access descriptors end at a multiple of 16, as the header must say, these are all such places.
     ensures each { (place : ℕ) → end % 16 ≡ 0 → IsPlace end length place → IsSomeAnd result (λ its. IsAmong its place) }
     ensures only { (place : ℕ) → end % 16 ≡ 0 → IfSome result (λ its. IsAmong its place → IsPlace end length place) }
 {
@@ -300,7 +304,7 @@ fn allowed_places(end: u128, length: u32) -> Option<Allowed>
     Some(steps(end as u64, most as u64, 16))
 }
 
-// How many endpoints a retrieve may name that names so many.
+// Returns the allowed number of endpoints of a retrieve that names `count` endpoints.
 fn allowed_names(ffa: Ffa, count: u64) -> Allowed
     ensures { result ≡ allowed_names ffa count }
 {
@@ -312,7 +316,7 @@ fn allowed_names(ffa: Ffa, count: u64) -> Allowed
     }
 }
 
-// Of a field of a retrieve or a relinquish, by the value that it has.
+// Returns the allowed values of a field of a retrieve or a relinquish, by the value that it has.
 fn allowed_asked(ffa: Ffa, value: u64, flaw: Flaw) -> Option<Allowed>
     ensures { result ≡ allowed_asked ffa value flaw }
 {

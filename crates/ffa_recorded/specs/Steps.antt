@@ -8,7 +8,10 @@ use Rattle.std.proofs.lemmas.Option.{none-some}
 use Rattle.std.proofs.lemmas.List.{reverse-append}
 use Rattle.ffa_model.specs.declared.endpoint.PageNo.{PageNo}
 use Rattle.ffa_model.specs.Ram.{Ram, page_of, with_page}
-use Rattle.ffa_physmem.specs.Moments.{IsInLoan, One, Step}
+use Rattle.ffa_physmem.specs.Moments.{IsInLoan, One, Only, Step}
+use Rattle.ffa_physmem.specs.Work.{Spends, loans_of, work_of}
+use Rattle.ffa_physmem.proofs.Moments.{Only-map, Only-one}
+use Rattle.ffa_physmem.proofs.Work.{one-spends}
 use Rattle.ffa_recorded.specs.declared.recorded.Noted.{Noted}
 use Rattle.ffa_recorded.specs.declared.recorded.Noted.TheVariants.{Written}
 use Rattle.ffa_recorded.specs.Records.{history, step_to, steps_to}
@@ -55,13 +58,25 @@ module _ (old new : Ram) (before after : List Noted) (noted : Noted) (P : Step �
   recorded-step true true kept more = kept-step (more refl)
   recorded-step false true kept more = absurd (false≢true (kept refl))
 
--- a page that got other bytes, with those that it held noted
-pub loan-step : (old new : Ram) (before after : List Noted) (page : PageNo) (held bytes : List ℕ) → held ≡ page_of old page.0 → new ≡ with_page old page.0 bytes → (was is : Bool)
+-- a page that got other bytes, with those that it held noted, in one step
+pub loan-noted : (old new : Ram) (before after : List Noted) (page : PageNo) (held bytes : List ℕ) → held ≡ page_of old page.0 → new ≡ with_page old page.0 bytes → (was is : Bool)
     → (is ≡ true → was ≡ true) → (is ≡ true → after ≡ before ++ Written (record { page = page; bytes = held }) ∷ [])
-    → One (history was old before) (history is new after) (λ s. IsInLoan old page.0 s)
-loan-step old new before after page held bytes holds wrote was is kept more =
+    → One (history was old before) (history is new after) (λ s. IsInLoan old page.0 s × (work_of s ≡ loans_of 1))
+loan-noted old new before after page held bytes holds wrote was is kept more =
     let back : with_page new page.0 held ≡ old =
     ap (with_page new page.0) holds ∙ ap (λ (r : Ram). with_page r page.0 (page_of old page.0)) wrote ∙ page-back old page.0 bytes in
-    recorded-step old new before after (Written (record { page = page; bytes = held })) (λ s. IsInLoan old page.0 s) back
-    (record { from = page_of old page.0; to = bytes; before = back ∙ sym (page-same old page.0); after = wrote; none = refl; unread = refl })
+    recorded-step old new before after (Written (record { page = page; bytes = held })) (λ s. IsInLoan old page.0 s × (work_of s ≡ loans_of 1)) back
+    (record { from = page_of old page.0; to = bytes; before = back ∙ sym (page-same old page.0); after = wrote; none = refl; unread = refl }, refl)
     was is kept more
+
+pub loan-step : (old new : Ram) (before after : List Noted) (page : PageNo) (held bytes : List ℕ) → held ≡ page_of old page.0 → new ≡ with_page old page.0 bytes → (was is : Bool)
+    → (is ≡ true → was ≡ true) → (is ≡ true → after ≡ before ++ Written (record { page = page; bytes = held }) ∷ [])
+    → Only (history was old before) (history is new after) (λ _ s. IsInLoan old page.0 s)
+loan-step old new before after page held bytes holds wrote was is kept more =
+    Only-map (Only-one (loan-noted old new before after page held bytes holds wrote was is kept more)) (λ _ s its. its.0)
+
+pub loan-spends : (old new : Ram) (before after : List Noted) (page : PageNo) (held bytes : List ℕ) → held ≡ page_of old page.0 → new ≡ with_page old page.0 bytes → (was is : Bool)
+    → (is ≡ true → was ≡ true) → (is ≡ true → after ≡ before ++ Written (record { page = page; bytes = held }) ∷ [])
+    → Spends (history was old before) (history is new after) (loans_of 1)
+loan-spends old new before after page held bytes holds wrote was is kept more =
+    one-spends _ _ (loans_of 1) (loan-noted old new before after page held bytes holds wrote was is kept more).each (λ s its. its.1)

@@ -8,16 +8,18 @@ use Rattle.std.proofs.lemmas.Option.{none-some}
 use Rattle.ffa_model.specs.Ram.{Ram}
 use Rattle.ffa_physmem.specs.Moments.{AreInTurn, StaysPlaced, Step, TurnsIn}
 use Rattle.ffa_recorded.specs.declared.recorded.Noted.{Noted}
-use Rattle.ffa_recorded.specs.declared.recorded.Noted.TheVariants.{Written, Settled, Read}
+use Rattle.ffa_recorded.specs.declared.recorded.Noted.TheVariants.{Stored, Written, Settled, Read}
 use Rattle.ffa_recorded.specs.Records.{history, step_to, steps_to}
 use Rattle.ffa_recorded.specs.Steps.{kept_of}
 
 ends-here : (ram : Ram) (x : Noted) → (step_to ram x).after ≡ ram
+ends-here ram (Stored held) = refl
 ends-here ram (Written held) = refl
 ends-here ram (Settled x) = refl
 ends-here ram (Read x) = refl
 
 stays-placed : (ram : Ram) (x : Noted) → StaysPlaced (step_to ram x)
+stays-placed ram (Stored held) = record { base = refl; size = sym (length-set ram.pages held.page.0 held.bytes) }
 stays-placed ram (Written held) = record { base = refl; size = sym (length-set ram.pages held.page.0 held.bytes) }
 stays-placed ram (Settled x) = record { base = refl; size = refl }
 stays-placed ram (Read x) = record { base = refl; size = refl }

@@ -29,9 +29,11 @@ pub struct Reading {
     begins: bool,
 }
 
-/// What was done.
+/// What was done: a word was stored in a page, the bytes of a page were lent, filled with zeros or copied to, or pages were settled
+/// or read at once.
 #[derive(Drop)]
 pub enum Noted {
+    Stored(PageBytes),
     Written(PageBytes),
     Settled(Settling),
     Read(Reading),
@@ -127,7 +129,7 @@ impl PhysMem for Recorded {
     ghost use Rattle.std.specs.Prelude.{refl};
     ghost use Rattle.ffa_recorded.specs.Records.{history};
     ghost use Rattle.ffa_recorded.specs.Turns.{turns};
-    ghost use Rattle.ffa_recorded.specs.Loans.{in_loan, noted_in, ram_of, with_bytes};
+    ghost use Rattle.ffa_recorded.specs.Loans.{in_loan, noted_in, one_loan, ram_of, with_bytes};
 
     ghost ram = { ram_of };
 
@@ -143,6 +145,8 @@ impl PhysMem for Recorded {
     ghost one_page = { λ m page bytes. refl };
 
     ghost in_loan = { in_loan };
+
+    ghost one_loan = { one_loan };
 
     ghost in_turn = { λ m. turns m.is_kept (ram_of m) (noted_in m) };
 
@@ -166,7 +170,7 @@ impl PhysMem for Recorded {
 
     fn write_word(&mut self, page: PageNo, index: usize, value: u64) {
         let bytes = *self.ram.page(page);
-        self.note(Noted::Written(PageBytes { page, bytes }));
+        self.note(Noted::Stored(PageBytes { page, bytes }));
         self.ram.write_word(page, index, value);
     }
 

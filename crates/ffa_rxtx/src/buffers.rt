@@ -8,6 +8,7 @@ ghost use Rattle.ffa_model.specs.Lists.{is_in_run};
 ghost use Rattle.ffa_model.specs.MemorySend.{is_buffer};
 ghost use Rattle.ffa_model.specs.State.{is_known_among};
 ghost use Rattle.ffa_physmem.specs.Moments.{Only};
+ghost use Rattle.ffa_physmem.specs.Work.{AddsAtMost, loans_of};
 ghost use Rattle.ffa_rxtx.specs.Parts.{IsInRam, IsRxWriting, have_page, with_rx_bytes};
 ghost use Rattle.ffa_rxtx.specs.Stored.{buffers_of};
 
@@ -129,6 +130,7 @@ impl Buffers {
         ensures full { self.new ≡ buffers_with_rx self.old endpoint.0 true }
         ensures steps { let own = buffers_in self.old endpoint.0 in
             Only (M.past ram.old) (M.past ram.new) (λ _ s. IsRxWriting (M.ram ram.old) own s) }
+        ensures few { AddsAtMost (M.past ram.old) (M.past ram.new) (loans_of 1) }
     {
         if let Some(mapped) = self.of(endpoint) {
             put_front(ram.page_mut(mapped.rx), bytes);

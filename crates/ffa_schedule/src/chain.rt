@@ -16,15 +16,16 @@ use ffa_model::function::{FFA_MSG_WAIT, FFA_RUN, FFA_YIELD};
 use ffa_model::{EndpointId, ErrorCode, MOST_ENDPOINTS, Reply, Status, Work};
 use std::marker::Model;
 
-/// Who runs, and for whom: from the normal world chains of endpoints, each of which is blocked for the one behind it, lead to
-/// the runner, and to each partition that has stopped in the midst of its work (DEN0077A, 8.2 and 9).
+/// The run states: which endpoint runs, and for whom (DEN0077A, 8.2 and 9). Chains of endpoints lead from the normal
+/// world to the runner, and to each partition that has stopped in the middle of its work. Each endpoint of a chain is
+/// blocked for the next one.
 #[derive(Drop)]
 pub struct Chain {
     // The endpoint that runs.
     pub(crate) runner: EndpointId,
-    // Of each endpoint its run state.
+    // The run state of each endpoint.
     pub(crate) statuses: ArrayVec<Status, MOST_ENDPOINTS>,
-    // Of each endpoint the work that it has: for whom it works is who stands before it.
+    // The work of each endpoint. It works for the endpoint before it in the chain.
     pub(crate) works: ArrayVec<Option<Work>, MOST_ENDPOINTS>,
 }
 
@@ -52,7 +53,7 @@ impl Model for Chain {
 }
 
 impl Chain {
-    /// The normal world runs, and each of its partitions waits.
+    /// Returns the run states at boot: the normal world runs, and each partition of the machine waits.
     pub fn first(endpoints: usize) -> Chain
         requires some { 1 ≤ endpoints }
         requires few { endpoints ≤ MOST_ENDPOINTS }
@@ -72,7 +73,7 @@ impl Chain {
         }
     }
 
-    /// The same chains once more. It takes no memory.
+    /// Returns a copy of the chains. It allocates nothing.
     pub fn copy(&self) -> Chain
         ensures { result ≡ self.now }
     {
@@ -83,7 +84,7 @@ impl Chain {
         }
     }
 
-    /// The endpoint that runs.
+    /// Returns the endpoint that runs.
     pub fn runner(&self) -> EndpointId
         ensures runner { result.0 ≡ self.now.runner }
         ensures sound { IsSound self.now }
@@ -91,7 +92,8 @@ impl Chain {
         self.runner
     }
 
-    /// The run state of an endpoint. An identifier that is no endpoint's is read at its place.
+    /// Returns the run state of an endpoint. For an identifier of no endpoint, it returns the run state at the
+    /// identifier's place.
     pub fn status(&self, endpoint: EndpointId) -> Status
         ensures { result ≡ status_in self.now endpoint.0 }
     {
@@ -103,7 +105,8 @@ impl Chain {
         }
     }
 
-    /// The work of an endpoint, if it has any. An identifier that is no endpoint's is read at its place.
+    /// Returns the work of an endpoint, if it has work. For an identifier of no endpoint, it returns the work at the
+    /// identifier's place.
     pub fn work(&self, endpoint: EndpointId) -> Option<Work>
         ensures { result ≡ work_in self.now endpoint.0 }
     {
@@ -115,14 +118,17 @@ impl Chain {
         }
     }
 
-    /// FFA_RUN of a target in one of its execution contexts (DEN0077A, 8.2): the normal world is blocked, and the target
-    /// runs. A waiting target gets work, and one that has yielded goes on with its own. The reply is what the target sees.
+    /// Gives cycles to a target in one of its execution contexts: FFA_RUN (DEN0077A, 8.2). The normal world is then
+    /// blocked, and the target runs. A waiting target gets work, and a target that has yielded continues with its own
+    /// work. The reply is what the target sees.
     ///
     /// # Errors
     ///
-    /// In this order: `Denied` where the runner isn't the normal world; `InvalidParameters` where the target is no
-    /// partition, or the execution context isn't 0; `Busy` where the target neither waits nor has yielded. An error
-    /// changes nothing.
+    /// The first of these that applies. An error changes nothing.
+    ///
+    /// - `Denied`: the runner is not the normal world.
+    /// - `InvalidParameters`: the target is not a partition, or the execution context is not 0.
+    /// - `Busy`: the target is not waiting and has not yielded.
     pub fn run_partition(&mut self, target: EndpointId, context: u16) -> Result<Reply, ErrorCode>
         ensures refusal { result_err result
             ≡ first_failure (run_guards (length self.old.works) self.old target.0 context) }
@@ -144,12 +150,12 @@ impl Chain {
         }
     }
 
-    /// FFA_MSG_WAIT (DEN0077A, 8.2): the runner waits, and the normal world, which gave it cycles, runs. The reply is
-    /// what the normal world sees.
+    /// Makes the runner wait: FFA_MSG_WAIT (DEN0077A, 8.2). The normal world, which gave it cycles, then runs. The
+    /// reply is what the normal world sees.
     ///
     /// # Errors
     ///
-    /// `Denied` where the normal world didn't give the runner cycles. An error changes nothing.
+    /// `Denied` if the normal world did not give the runner cycles. An error changes nothing.
     pub fn wait(&mut self) -> Result<Reply, ErrorCode>
         ensures refusal { result_err result ≡ first_failure (wait_guards self.old) }
         ensures reply { IfOk result (λ reply. reply ≡ scheduled FFA_MSG_WAIT self.old.runner) }
@@ -163,12 +169,12 @@ impl Chain {
         Ok(reply_with(FFA_MSG_WAIT, runner))
     }
 
-    /// FFA_YIELD (DEN0077A, 8.2): the runner has yielded and keeps its work, and the normal world, for which it works,
-    /// runs. The reply is what the normal world sees.
+    /// Makes the runner yield with its work: FFA_YIELD (DEN0077A, 8.2). The normal world, for which the runner works,
+    /// then runs. The reply is what the normal world sees.
     ///
     /// # Errors
     ///
-    /// `Denied` where the runner doesn't work for the normal world. An error changes nothing.
+    /// `Denied` if the runner does not work for the normal world. An error changes nothing.
     pub fn yield_now(&mut self) -> Result<Reply, ErrorCode>
         ensures refusal { result_err result ≡ first_failure (yield_guards self.old) }
         ensures reply { IfOk result (λ reply. reply ≡ scheduled FFA_YIELD self.old.runner) }
@@ -182,7 +188,8 @@ impl Chain {
         Ok(reply_with(FFA_YIELD, runner))
     }
 
-    /// A direct request of the runner (DEN0077A, 15): it is blocked, and the receiver works for it and runs.
+    /// Makes a direct request of the runner (DEN0077A, 15). The runner is then blocked, and the receiver works for it
+    /// and runs.
     pub fn request(&mut self, receiver: EndpointId)
         requires partition { is_partition_among (length self.old.works) receiver.0 ≡ true }
         requires waiting { is_waiting (status_in self.old receiver.0) ≡ true }
@@ -193,7 +200,8 @@ impl Chain {
         self.start(receiver, work);
     }
 
-    /// The direct response of the runner (DEN0077A, 15): it waits, and the endpoint whose request it answers runs.
+    /// Makes the direct response of the runner (DEN0077A, 15). The runner then waits, and the endpoint whose request it
+    /// answers runs.
     pub fn respond(&mut self)
         requires answers { is_some (requester (work_in self.old self.old.runner)) ≡ true }
         ensures changed { IsSomeAnd (requester (work_in self.old self.old.runner)) (λ by.
@@ -205,9 +213,9 @@ impl Chain {
         }
     }
 
-    /// The runner stops in this status with the work that it has, and an endpoint that had stopped so, or the normal world, goes
-    /// on with its own: so it is where an interrupt preempts a partition, where that one goes on, and where another processor
-    /// does an operation.
+    /// Stops the runner in this status, with the work that it has, and lets another endpoint continue with its own
+    /// work. That endpoint had stopped in the same way, or is the normal world. This happens when an interrupt preempts
+    /// a partition, when a preempted partition continues, and when another processor does an operation.
     pub fn switch(&mut self, status: Status, endpoint: EndpointId)
         requires stops { MayStop self.old status }
         requires goes { MayGoOn self.old endpoint.0 }
@@ -219,7 +227,7 @@ impl Chain {
         self.runner = endpoint;
     }
 
-    // The runner is blocked, and a partition that waits has this work for it and runs.
+    // Blocks the runner, and makes a waiting partition run with this work for it.
     fn start(&mut self, partition: EndpointId, work: Work)
         requires partition { is_partition_among (length self.old.works) partition.0 ≡ true }
         requires waiting { is_waiting (status_in self.old partition.0) ≡ true }
@@ -233,7 +241,7 @@ impl Chain {
         self.runner = partition;
     }
 
-    // The runner has done its work, and waits; the endpoint that it worked for runs.
+    // Ends the work of the runner, which then waits. The endpoint that it worked for runs.
     fn finish(&mut self, by: EndpointId)
         requires { origin (work_in self.old self.old.runner) ≡ Some by.0 }
         ensures changed { self.new ≡ finished self.old by.0 }
@@ -246,7 +254,7 @@ impl Chain {
     }
 }
 
-// The run state at first of the endpoint at a place in the manifest.
+// Returns the first run state of the endpoint at a place in the manifest.
 fn first_status(place: usize) -> Status
     ensures { result ≡ first_status place }
 {
@@ -257,7 +265,7 @@ fn first_status(place: usize) -> Status
     }
 }
 
-// An endpoint has this run state.
+// Sets the run state of an endpoint.
 fn set_status(statuses: &mut ArrayVec<Status, MOST_ENDPOINTS>, endpoint: EndpointId, status: Status)
     requires { place endpoint.0 < length statuses.old.items }
     ensures { statuses.new.items ≡ slice_set statuses.old.items (place endpoint.0) status }
@@ -265,7 +273,7 @@ fn set_status(statuses: &mut ArrayVec<Status, MOST_ENDPOINTS>, endpoint: Endpoin
     statuses[endpoint.place()] = status;
 }
 
-// An endpoint has this work.
+// Sets the work of an endpoint.
 fn set_work(
     works: &mut ArrayVec<Option<Work>, MOST_ENDPOINTS>,
     endpoint: EndpointId,
@@ -277,7 +285,7 @@ fn set_work(
     works[endpoint.place()] = work;
 }
 
-// What the endpoint that runs next is told of a partition which is given cycles, or gives them back.
+// Returns what the endpoint that runs next sees of a partition that gets cycles or returns them.
 fn reply_with(function: u32, partition: EndpointId) -> Reply
     ensures { result ≡ scheduled function partition.0 }
 {
@@ -287,7 +295,7 @@ fn reply_with(function: u32, partition: EndpointId) -> Reply
     }
 }
 
-// The same items once more.
+// Returns a copy of a list.
 fn copied<T: Copy + Default, const MOST: usize>(list: &ArrayVec<T, MOST>) -> ArrayVec<T, MOST>
     ensures { result ≡ list.now }
 {

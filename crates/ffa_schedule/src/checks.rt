@@ -1,5 +1,5 @@
 // SPDX-License-Identifier: MIT OR Apache-2.0
-//! The checks of the calls on run states, each of which names the first that fails (DEN0077A, 8.2).
+//! The checks of the calls on run states (DEN0077A, 8.2). Each function returns the first check that fails.
 ghost use Rattle.std.specs.Prelude.{◌≡◌, ◌||◌, length, Some, OnOk, IfOk};
 ghost use Rattle.std.specs.Result.{result_err};
 ghost use Rattle.ffa_model.specs.Calls.{first_refusal};
@@ -12,7 +12,7 @@ use crate::chain::Chain;
 use ffa_model::{EndpointId, Refusal, Status, Version, Work};
 
 impl Chain {
-    /// The checks of FFA_RUN in order: the first that fails.
+    /// Makes the checks of FFA_RUN in order. Returns the first that fails.
     pub fn check_run(&self, target: EndpointId, context: u16) -> Result<(), Refusal>
         ensures refusal { result_err result
             ≡ first_refusal (run_guards (length self.now.works) self.now target.0 context) }
@@ -35,7 +35,7 @@ impl Chain {
         }
     }
 
-    /// The check of FFA_MSG_WAIT, which fails where the normal world didn't give the runner cycles.
+    /// Makes the check of FFA_MSG_WAIT, which fails if the normal world did not give the runner cycles.
     pub fn check_wait(&self) -> Result<(), Refusal>
         ensures refusal { result_err result ≡ first_refusal (wait_guards self.now) }
         ensures work { OnOk result (work_in self.now self.now.runner ≡ Some Run) }
@@ -46,8 +46,8 @@ impl Chain {
         }
     }
 
-    /// The check of FFA_YIELD, which fails where the runner doesn't work for the normal world. Finds the work with which
-    /// the runner yields.
+    /// Makes the check of FFA_YIELD, which fails if the runner does not work for the normal world. Returns the work
+    /// with which the runner yields.
     pub fn check_yield(&self) -> Result<Work, Refusal>
         ensures refusal { result_err result ≡ first_refusal (yield_guards self.now) }
         ensures work { IfOk result (λ work. work_in self.now self.now.runner ≡ Some work) }
@@ -59,7 +59,7 @@ impl Chain {
         }
     }
 
-    /// Whether FFA_RUN of a target in one of its execution contexts lets a preempted partition go on.
+    /// Whether FFA_RUN of a target in one of its execution contexts lets a preempted partition continue.
     pub fn may_resume(&self, target: EndpointId, context: u16) -> bool
         ensures may { result ≡ may_resume (length self.now.works) self.now target.0 context }
         ensures sound { IsSound self.now }
@@ -70,7 +70,7 @@ impl Chain {
             && is_preempted(self.status(target))
     }
 
-    // The work of the runner.
+    // Returns the work of the runner.
     pub(crate) fn own_work(&self) -> Option<Work>
         ensures { result ≡ work_in self.now self.now.runner }
     {
@@ -78,7 +78,8 @@ impl Chain {
     }
 }
 
-/// Whether FFA_MSG_WAIT with these flags leaves the RX of a caller of this form as it is: so bit 0 says, in FF-A 1.2 alone.
+/// Whether FFA_MSG_WAIT with these flags leaves the RX of a caller of this form as it is. Bit 0 says this, and only in
+/// FF-A 1.2.
 pub fn keeps_rx(version: Version, flags: u32) -> bool
     ensures { result ≡ keeps_rx version flags }
 {
@@ -95,7 +96,7 @@ fn is_preempted(status: Status) -> bool
     matches!(status, Status::Preempted)
 }
 
-// Whether work was set going by the normal world.
+// Whether the normal world is the endpoint for which this work is.
 fn works_for_normal_world(work: Work) -> bool
     ensures { result ≡ (is_run (Some work) || is_endpoint 0 (requester (Some work))) }
 {

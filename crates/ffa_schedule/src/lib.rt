@@ -1,5 +1,5 @@
 // SPDX-License-Identifier: MIT OR Apache-2.0
-//! Keeps the run state of each endpoint: who runs, and for whom it works.
+//! Stores the run state of each endpoint: which endpoint runs, and for whom it works.
 #![tactic(auto)]
 
 pub mod chain;

@@ -13,22 +13,22 @@ use bitflags::Flags;
 use byteorder::{ByteOrder, LittleEndian};
 use ffa_model::{Endpoint, EndpointId, Ffa, MOST_ENDPOINTS, Manifest, Refusal, Version};
 
-/// The bit of a partition's properties that says that it runs in AArch64.
+/// The bit of a partition's properties that says that the partition runs in AArch64.
 const AARCH64: u32 = 0x100;
 
 /// The bits of a partition's properties that say which messages it receives and sends.
 const OF_MESSAGES: u32 = 7;
 
-/// The bits of a partition's properties that FF-A 1.1 has, but for the bit that says that it runs in AArch64.
+/// The bits of a partition's properties that FF-A 1.1 has, except the bit that says that the partition runs in AArch64.
 const OF_FFA_1_1: u32 = 15;
 
-/// How many execution contexts each partition has.
+/// The number of execution contexts of each partition.
 const CONTEXTS: u16 = 1;
 
-/// The most bytes of partition information: 24 for each endpoint but the normal world.
+/// The most bytes of partition information: 24 for each endpoint except the normal world.
 pub const MOST_INFO_BYTES: usize = 24 * (MOST_ENDPOINTS - 1);
 
-// The UUID whose bytes four registers hold, the lowest first.
+// Returns the UUID whose bytes are in four registers, the lowest first.
 fn uuid_of(words: [u32; 4]) -> [u8; 16]
     ensures { result ≡ uuid_bytes words }
 {
@@ -58,8 +58,8 @@ fn is_selected(uuid: &[u8; 16], place: usize, endpoint: &Endpoint) -> bool
     place != 0 && (is_zeros(uuid) || endpoint.uuid == *uuid)
 }
 
-/// How many partitions the UUID in four registers selects: the Nil UUID selects all, and another UUID those that have
-/// it.
+/// Counts the partitions that the UUID in four registers selects. The Nil UUID selects all partitions, and another UUID
+/// selects the partitions that have it.
 pub fn count(manifest: &Manifest, uuid: [u32; 4]) -> u32
     ensures { result ≡ length (selected (map party_of manifest.now.endpoints.items) (uuid_bytes uuid)) }
 {
@@ -73,7 +73,7 @@ pub fn count(manifest: &Manifest, uuid: [u32; 4]) -> u32
     count
 }
 
-/// Whether a UUID in four registers may be asked for: the Nil UUID may, and else that of a partition.
+/// Whether FFA_PARTITION_INFO_GET may name the UUID in four registers: the Nil UUID, or the UUID of a partition.
 pub fn is_recognized(manifest: &Manifest, uuid: [u32; 4]) -> bool
     ensures { result ≡ (model.is_nil (uuid_bytes uuid)
         || is_any (selected (map party_of manifest.now.endpoints.items) (uuid_bytes uuid))) }
@@ -81,8 +81,8 @@ pub fn is_recognized(manifest: &Manifest, uuid: [u32; 4]) -> bool
     is_nil(uuid) || count(manifest, uuid) != 0
 }
 
-/// The check of FFA_PARTITION_INFO_GET that fails where the caller has no buffers for what it asks (DEN0077A, 13.8): FF-A 1.2 has an
-/// error code of its own for that.
+/// Returns the check of FFA_PARTITION_INFO_GET that fails if the caller has no buffers, and the call needs them
+/// (DEN0077A, 13.8). FF-A 1.2 has its own error code for that.
 pub fn missing_buffers(ffa: Ffa) -> Refusal
     ensures { result ≡ (if needs_buffers ffa then Refusal.BuffersNeeded else Refusal.BuffersMissing) }
 {
@@ -92,7 +92,7 @@ pub fn missing_buffers(ffa: Ffa) -> Refusal
     }
 }
 
-// The information on the partition at a place in the manifest for a compact caller.
+// Returns the information on the partition at a place in the manifest, for a compact caller.
 fn compact_info(ffa: Ffa, uuid: &[u8; 16], place: usize, endpoint: &Endpoint) -> [u8; 8]
     requires place { place < MOST_ENDPOINTS }
     ensures { result ≡ info_of ffa Version.Compact uuid.now (place, party_of endpoint.now) }
@@ -104,8 +104,8 @@ fn compact_info(ffa: Ffa, uuid: &[u8; 16], place: usize, endpoint: &Endpoint) ->
     info
 }
 
-// The properties of a partition that a caller of this form is told. On a machine of FF-A 1.2 only a caller of FF-A 1.2 is told
-// those of second direct messages.
+// Returns the properties of a partition that a caller of this form sees. On a machine of FF-A 1.2, only a caller of
+// FF-A 1.2 sees the properties of second direct messages.
 fn properties_told(ffa: Ffa, version: Version, properties: u32) -> u32
     ensures { result ≡ properties_told ffa version properties }
 {
@@ -115,8 +115,8 @@ fn properties_told(ffa: Ffa, version: Version, properties: u32) -> u32
     }
 }
 
-// The information on the partition at a place in the manifest for any caller but a compact one, who is told these properties.
-// It has the partition's UUID where the Nil UUID was asked.
+// Returns the information on the partition at a place in the manifest, for a caller that sees these properties and is
+// not compact. The information has the partition's UUID if the call names the Nil UUID.
 fn full_info(properties: u32, uuid: &[u8; 16], place: usize, endpoint: &Endpoint) -> [u8; 24]
     requires place { place < MOST_ENDPOINTS }
     requires properties { properties < 2 ^ 11 }
@@ -133,7 +133,7 @@ fn full_info(properties: u32, uuid: &[u8; 16], place: usize, endpoint: &Endpoint
     info
 }
 
-// Puts the information on the partition at a place in the manifest behind that on others, for a caller of this version.
+// Adds the information on the partition at a place in the manifest to the end of `bytes`, for a caller of this version.
 fn push_info(
     bytes: &mut ArrayVec<u8, MOST_INFO_BYTES>,
     ffa: Ffa,
@@ -161,7 +161,8 @@ fn push_info(
     }
 }
 
-/// How many bytes the information on one partition has, as a caller of this version is told it; 0 where it isn't.
+/// Returns the number of bytes of the information on one partition, as FFA_PARTITION_INFO_GET reports it to a caller of
+/// this version. Returns 0 for a compact caller, to which the call does not report it.
 pub fn told_info_size(version: Version) -> u32
     ensures { result ≡ told_info_size version }
 {
@@ -171,8 +172,8 @@ pub fn told_info_size(version: Version) -> u32
     }
 }
 
-/// The descriptors of the partitions that the UUID in four registers selects, in the order of the manifest: 24 bytes
-/// each, and 8 for a compact caller.
+/// Returns the descriptors of the partitions that the UUID in four registers selects, in the order of the manifest.
+/// Each has 24 bytes, and 8 for a compact caller.
 pub fn info_bytes(
     manifest: &Manifest,
     version: Version,

@@ -1,5 +1,5 @@
 // SPDX-License-Identifier: MIT OR Apache-2.0
-//! Calls whose reply is all that they do, and the answers of FFA_VERSION.
+//! The calls whose reply is all that they do, and the answers of FFA_VERSION.
 ghost use Rattle.std.specs.Prelude.{◌≡◌, ◌==◌, ◌&&◌, not, if◌then◌else◌};
 ghost use Rattle.std.specs.Result.{result_err};
 ghost use Rattle.ffa_model.specs.Bits.{bits, is_set};
@@ -14,26 +14,27 @@ use ffa_model::function::{
 };
 use ffa_model::{EndpointId, Ffa, MOST_BUFFER_PAGES, Refusal, Reply, Version};
 
-/// FF-A 1.1 as FFA_VERSION names it: the major number in bits 30:16 and the minor one below.
+/// FF-A 1.1 as FFA_VERSION writes it: the major number in bits 30:16, and the minor number below.
 const V1_1: u32 = 0x0001_0001;
 
-/// FF-A 1.2 as FFA_VERSION names it.
+/// FF-A 1.2 as FFA_VERSION writes it: the major number in bits 30:16, and the minor number below.
 const V1_2: u32 = 0x0001_0002;
 
-/// What FFA_FEATURES says of FFA_RXTX_MAP: in bits 31:16, how many pages a buffer has at most.
+/// The property of FFA_RXTX_MAP that FFA_FEATURES returns: in bits 31:16, the most pages that a buffer can have.
 const GREATEST_SIZE: u32 = MOST_BUFFER_PAGES << 16;
 
-/// What FFA_FEATURES says of a retrieve whose response tells non-secure memory: bit 1.
+/// The property of FFA_MEM_RETRIEVE_REQ that FFA_FEATURES returns if the response reports non-secure memory: bit 1.
 const TELLS_WORLDS: u32 = 2;
 
-/// What FFA_FEATURES says to the normal world, whose hypervisor may read back what it sent: bit 2.
+/// The property of FFA_MEM_RETRIEVE_REQ that FFA_FEATURES returns to the normal world, whose hypervisor may read back
+/// what it sent: bit 2.
 const READS_BACK: u32 = 4;
 
 /// NOT_SUPPORTED as FFA_VERSION answers it, as 32 bits of two's complement.
 const NO_VERSION: u32 = 0xFFFF_FFFF;
 
-/// FFA_VERSION (DEN0077A, 13) on a machine of FF-A 1.1: version 1.1 to a caller of any version with the major number 1, and
-/// else NOT_SUPPORTED.
+/// Returns the answer to FFA_VERSION (DEN0077A, 13) on a machine of FF-A 1.1. It is version 1.1 if the caller's version
+/// has the major number 1, and NOT_SUPPORTED otherwise.
 pub fn version(version: u32) -> Reply
     ensures { result ≡ version_reply version }
 {
@@ -47,24 +48,28 @@ pub fn is_version(word: u32) -> bool
     word >> 16 == 1
 }
 
-/// FFA_VERSION's answer on a machine of FF-A 1.2, by whether the caller's version is served.
+/// Returns the answer to FFA_VERSION on a machine of FF-A 1.2: version 1.2 if the caller's version is served, and
+/// NOT_SUPPORTED otherwise.
 pub fn answer(is_served: bool) -> Reply
     ensures { result ≡ Reply.Version (if is_served then 0x10002 else 0xFFFFFFFF) }
 {
     told_version(is_served, V1_2)
 }
 
-// FFA_VERSION's answer, by whether the caller's version is served, on a machine of this version.
+// Returns the answer to FFA_VERSION: this version if the caller's version is served, and NOT_SUPPORTED otherwise.
 fn told_version(is_served: bool, version: u32) -> Reply
     ensures { result ≡ Reply.Version (if is_served then version else 0xFFFFFFFF) }
 {
     Reply::Version(if is_served { version } else { NO_VERSION })
 }
 
-/// FFA_FEATURES (DEN0077A, 13), by the identifier of a call in either form: whether the caller may make it. A machine of FF-A 1.2
-/// also tells properties of two calls: of FFA_RXTX_MAP how many pages a buffer has at most, to a caller of the form of FF-A 1.2;
-/// and of FFA_MEM_RETRIEVE_REQ that its response tells non-secure memory, to a caller of any but the compact form, and that a
-/// hypervisor may read back what it sent, to the normal world. No other call has further properties.
+/// Returns the answer to FFA_FEATURES (DEN0077A, 13) about a call, by the identifier of either form: whether the caller
+/// may make the call.
+///
+/// A machine of FF-A 1.2 also reports properties of two calls. For FFA_RXTX_MAP, a caller of the form of FF-A 1.2 sees
+/// the most pages that a buffer can have. For FFA_MEM_RETRIEVE_REQ, a caller of any form except the compact one sees
+/// that the response reports non-secure memory. The normal world also sees that a hypervisor may read back what it
+/// sent. No other call has further properties.
 pub fn features(function: u32, ffa: Ffa, caller: EndpointId, version: Version) -> Reply
     ensures { result ≡ features_reply ffa caller.0 version function }
 {
@@ -74,7 +79,7 @@ pub fn features(function: u32, ffa: Ffa, caller: EndpointId, version: Version) -
     }
 }
 
-// The properties of a call, on a machine of this version of FF-A, for this caller of this form.
+// Returns the properties of a call on a machine of this version of FF-A, for this caller of this form.
 fn properties(function: u32, ffa: Ffa, caller: EndpointId, version: Version) -> u32
     ensures { result ≡ feature_properties ffa caller.0 version function }
 {
@@ -90,7 +95,7 @@ fn properties(function: u32, ffa: Ffa, caller: EndpointId, version: Version) -> 
     }
 }
 
-// The properties of FFA_RXTX_MAP, for a caller of this form.
+// Returns the properties of FFA_RXTX_MAP for a caller of this form.
 fn map_properties(version: Version) -> u32
     ensures { result ≡ map_properties version }
 {
@@ -100,7 +105,7 @@ fn map_properties(version: Version) -> u32
     }
 }
 
-// The properties of FFA_MEM_RETRIEVE_REQ, for this caller of this form.
+// Returns the properties of FFA_MEM_RETRIEVE_REQ for this caller of this form.
 fn retrieve_properties(caller: EndpointId, version: Version) -> u32
     ensures { result ≡ retrieve_properties caller.0 version }
 {
@@ -112,7 +117,7 @@ fn retrieve_properties(caller: EndpointId, version: Version) -> u32
     told_worlds(version) + read_back
 }
 
-// Of these the bit of non-secure memory.
+// Returns the bit of non-secure memory in the properties of FFA_MEM_RETRIEVE_REQ.
 fn told_worlds(version: Version) -> u32
     ensures { result ≡ if tells_normal version then 2 else 0 }
 {
@@ -122,11 +127,12 @@ fn told_worlds(version: Version) -> u32
     }
 }
 
-/// The check of FFA_FEATURES, on a machine of this version of FF-A: whether the caller may make the call that it asks about.
+/// Makes the check of FFA_FEATURES, on a machine of this version of FF-A: whether the caller may make the call with
+/// this identifier.
 ///
 /// # Errors
 ///
-/// `FunctionUnknown` if it may not.
+/// `FunctionUnknown` if the caller may not make the call.
 pub fn check_features(function: u32, ffa: Ffa, caller: EndpointId) -> Result<(), Refusal>
     ensures { result_err result ≡ first_refusal (features_guards ffa caller.0 function) }
 {
@@ -136,7 +142,7 @@ pub fn check_features(function: u32, ffa: Ffa, caller: EndpointId) -> Result<(),
     Ok(())
 }
 
-// Whether a caller may make the call that a number identifies.
+// Whether a caller may make the call with this identifier.
 fn may_call(function: u32, ffa: Ffa, caller: EndpointId) -> bool
     ensures { result ≡ may_call ffa caller.0 function }
 {
@@ -146,14 +152,14 @@ fn may_call(function: u32, ffa: Ffa, caller: EndpointId) -> bool
     }
 }
 
-/// FFA_ID_GET (DEN0077A, 13): the caller's own identifier.
+/// Returns the answer to FFA_ID_GET (DEN0077A, 13): the caller's own identifier.
 pub fn id(caller: EndpointId) -> Reply
     ensures { result ≡ success caller.0 0 }
 {
     Reply::Success([u32::from(caller.0), 0, 0, 0, 0, 0])
 }
 
-/// FFA_SPM_ID_GET (DEN0077A, 13): the manager's identifier.
+/// Returns the answer to FFA_SPM_ID_GET (DEN0077A, 13): the manager's identifier.
 pub fn spm_id() -> Reply
     ensures { result ≡ success manager 0 }
 {

@@ -1,5 +1,5 @@
 // SPDX-License-Identifier: MIT OR Apache-2.0
-//! In which form each endpoint writes and reads.
+//! The form in which each endpoint writes and reads.
 ghost use Rattle.std.specs.Prelude.{◌≡◌, ◌<◌, length, map, slice_index_or, slice_set};
 ghost use Rattle.ffa_model.specs.declared.endpoint.Version.TheVariants.{V1_1};
 ghost use Rattle.ffa_model.specs.Identifiers.{place};
@@ -9,7 +9,7 @@ use arrayvec::ArrayVec;
 use ffa_model::{EndpointId, MOST_ENDPOINTS, Manifest, Version};
 use std::marker::Model;
 
-/// Of each endpoint the form in which it writes and reads descriptors. They take no memory beyond themselves.
+/// The form in which each endpoint writes and reads descriptors. The value has no memory besides itself.
 #[derive(Drop)]
 pub struct Versions {
     entries: ArrayVec<Version, MOST_ENDPOINTS>,
@@ -25,7 +25,7 @@ impl Model for Versions {
 }
 
 impl Versions {
-    /// The forms that a manifest gives its endpoints.
+    /// Returns the forms that a manifest gives to its endpoints.
     pub fn of(manifest: &Manifest) -> Versions
         ensures { result ≡ map (λ e. e.version) manifest.now.endpoints.items }
     {
@@ -36,7 +36,7 @@ impl Versions {
         Versions { entries }
     }
 
-    /// The same forms once more. It takes no memory.
+    /// Returns a copy of the forms. It allocates nothing.
     pub fn copy(&self) -> Versions
         ensures { result ≡ self.now }
     {
@@ -47,8 +47,8 @@ impl Versions {
         Versions { entries }
     }
 
-    /// The form of an endpoint. An identifier that is no endpoint's is read at its place. It is the form of FF-A 1.1
-    /// where no endpoint has the place.
+    /// Returns the form of an endpoint. For an identifier of no endpoint, it returns the form at the identifier's place
+    /// in the manifest. Returns the form of FF-A 1.1 if no endpoint has the place.
     pub fn of_endpoint(&self, endpoint: EndpointId) -> Version
         ensures { result ≡ slice_index_or self.now (place endpoint.0) V1_1 }
     {
@@ -60,7 +60,7 @@ impl Versions {
         }
     }
 
-    /// From now on an endpoint writes and reads in this form.
+    /// Sets the form in which an endpoint writes and reads from now on.
     pub fn keep(&mut self, endpoint: EndpointId, version: Version)
         requires { place endpoint.0 < length self.old }
         ensures { self.new ≡ slice_set self.old (place endpoint.0) version }
@@ -69,8 +69,8 @@ impl Versions {
     }
 }
 
-/// The form of the version that a word of FFA_VERSION names, by its minor number: that of FF-A 1.0 is the compact one, and
-/// versions above 1.2 have that of FF-A 1.2.
+/// Returns the form of the version that a word of FFA_VERSION names, by its minor number. FF-A 1.0 has the compact
+/// form, and versions above 1.2 have the form of FF-A 1.2.
 pub fn form_of(word: u32) -> Version
     ensures { result ≡ form_of word }
 {

@@ -31,6 +31,9 @@ use Rattle.ffa_spmc.specs.Moments.{AreMoments}
 use Rattle.ffa_spmc.specs.Operated.{IsDone}
 use Rattle.ffa_spmc.specs.Snapshot.{Snapshot}
 use Rattle.ffa_spmc.specs.Unowned.{KeepsUnowned}
+use Rattle.ffa_spmc.specs.Work.{most_work}
+use Rattle.ffa_physmem.specs.Work.{AddsAtMost}
+use Rattle.ffa_physmem.proofs.Work.{adds-none}
 use Rattle.ffa_spmc.specs.Walks.{walk_of}
 use Rattle.ffa_spmc.proofs.AccessChanges.{nothing-told}
 use Rattle.ffa_spmc.proofs.Done.{base-after, done, known-after, machine-after}
@@ -104,14 +107,15 @@ module _ (old : Snapshot) (s : State) (ram : Ram) (past : Past) (op : Op) (addre
         (accessed-same e p ∙ sym (ap (λ (o : Option ℕ). option_map_or (λ a. is_runners old.state a e p) o false) accesses) ∙ not)
 
     pub access-done : told ≡ (step old.state op).outcome → (is_refusal told ≡ true → left ≡ old) → KeepsUnowned old.state old.ram ram
-        → AreMoments old.state old.ram ram old.past past → IsDone old op told new
-    access-done outcome refused unowned moments =
+        → AreMoments old.state old.ram ram old.past past → AddsAtMost old.past past (most_work old.state op) → IsDone old op told new
+    access-done outcome refused unowned moments few =
         done old new op was is.managed (ap (λ (x : Snapshot). x.state) cached.rest ∙ state)
         (subst (λ (x : Snapshot). AreMoments old.state old.ram x.ram old.past x.past) (sym cached.rest) moments) told outcome
         (λ its. cached.rest ∙ ap (λ (list : List Entry). record left { held = list }) (cached.refused its) ∙ refused its)
         (subst (λ (x : Snapshot). KeepsUnowned old.state old.ram x.ram) (sym cached.rest) unowned) is.walks
         (λ e p changed. absurd (changed (same-in e p))) kept others
         (nothing-told op old.state new.state old.told new.told same-in (ap (λ (x : Snapshot). x.told) cached.rest))
+        (subst (λ (x : Snapshot). AddsAtMost old.past x.past (most_work old.state op)) (sym cached.rest) few)
       where
         same-in : (e p : ℕ) → access new.state e p ≡ access old.state e p
         same-in e p = ap (λ (x : Snapshot). access x.state e p) cached.rest ∙ access-same e p
@@ -121,4 +125,4 @@ pub read-done : (old new : Snapshot) (op : Op) (address : ℕ) → address_in op
     → (told : Outcome) → told ≡ (step old.state op).outcome → IsCached old new address told → IsDone old op told new
 read-done old new op address accesses was is state told outcome cached =
     access-done old old.state old.ram old.past op address accesses was (sym state) new is told cached outcome
-    (λ _. refl) (λ p _ _. refl) (no-moments old.state old.ram old.past)
+    (λ _. refl) (λ p _ _. refl) (no-moments old.state old.ram old.past) (adds-none (most_work old.state op))

@@ -29,6 +29,8 @@ use Rattle.ffa_spmc.specs.Moments.{AreMoments}
 use Rattle.ffa_spmc.specs.Operated.{IsDone}
 use Rattle.ffa_spmc.specs.Snapshot.{Snapshot}
 use Rattle.ffa_spmc.specs.Unowned.{KeepsUnowned}
+use Rattle.ffa_spmc.specs.Work.{most_work}
+use Rattle.ffa_physmem.specs.Work.{AddsAtMost}
 use Rattle.ffa_physmem.proofs.Moments.{Only-map}
 use Rattle.ffa_spmc.proofs.Forgotten.{gone, gone-or-held, same-held, still-held}
 use Rattle.ffa_spmc.proofs.HeldWalks.{walks-after}
@@ -56,8 +58,8 @@ module _ (old new : Snapshot) (op : Op) (was : IsMachine old) (is : IsManaged (m
 
   pub done : (told : Outcome) → told ≡ (step old.state op).outcome → (is_refusal told ≡ true → new ≡ old) → KeepsUnowned old.state old.ram new.ram
       → AreWalks new → AreForgotten old new → (is_miss old op ≡ false → AreKept old new) → AreSameOrGone old new (is_accessed old.state op)
-      → IsTelling op old.state new.state old.told new.told → IsDone old op told new
-  done told outcome refused unowned walks forgotten kept others telling = record {
+      → IsTelling op old.state new.state old.told new.told → AddsAtMost old.past new.past (most_work old.state op) → IsDone old op told new
+  done told outcome refused unowned walks forgotten kept others telling few = record {
     outcome = outcome;
     operated = record {
       state = state;
@@ -66,6 +68,7 @@ module _ (old new : Snapshot) (op : Op) (was : IsMachine old) (is : IsManaged (m
       unowned = unowned;
       order = Only-map moments.steps (λ h s its. its.order);
       mixtures = mixed.0;
+      few = few;
       walks = walks;
       forgotten = forgotten;
       kept = kept;
@@ -88,10 +91,11 @@ module _ (old new : Snapshot) (x : List ℕ) (was : IsMachine old) (is : IsManag
   machine-after-call = machine-after old new (Call x) was is state moments (still-held old.state new.state changed forgot.access old.held new.held forgot.rest)
 
   pub called : (told : Outcome) → told ≡ (step old.state (Call x)).outcome → (is_refusal told ≡ true → new ≡ old) → KeepsUnowned old.state old.ram new.ram
-      → new.told ≡ option_or changed old.told → (is_call is_memory_call (Call x) ≡ false → changed ≡ None) → IsDone old (Call x) told new
-  called told outcome refused unowned news silent =
+      → new.told ≡ option_or changed old.told → (is_call is_memory_call (Call x) ≡ false → changed ≡ None)
+      → AddsAtMost old.past new.past (most_work old.state (Call x)) → IsDone old (Call x) told new
+  called told outcome refused unowned news silent few =
       done old new (Call x) was is state moments told outcome refused unowned machine-after-call.0
       (gone old.state new.state changed forgot.access old.held new.held forgot.rest)
       (λ _. same-held old.state new.state changed forgot.access old.held new.held forgot.rest old.ram was.managed.agrees was.managed.sound was.walks)
       (λ e p _. gone-or-held old.state new.state changed forgot.access old.held new.held forgot.rest e p)
-      (record { changed = changed; access = forgot.access; told = news; silent = silent })
+      (record { changed = changed; access = forgot.access; told = news; silent = silent }) few

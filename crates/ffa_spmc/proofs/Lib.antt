@@ -32,6 +32,7 @@ pub mod Clusters
 pub mod Acts
 pub mod Sends
 pub mod Reclaims
+pub mod Works
 pub mod Relinquishes
 pub mod Donations
 pub mod Retrieves

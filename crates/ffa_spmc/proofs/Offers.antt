@@ -1,6 +1,6 @@
 -- SPDX-License-Identifier: MIT OR Apache-2.0
 -- FFA_MEM_DONATE, FFA_MEM_LEND and FFA_MEM_SHARE change the state as the small machine's.
-use Rattle.std.proofs.Common.{◌≡◌, ◌∙◌, ℕ, ◌<◌, Bool, true, false, List, length, take, Option, Some, None, Result, Ok, Err, refl, sym, ap, subst, inr}
+use Rattle.std.proofs.Common.{◌≡◌, ◌∙◌, ℕ, ◌<◌, Bool, true, false, List, length, take, Option, Some, None, Result, Ok, Err, refl, sym, ap, subst, inr, inl}
 use Rattle.std.specs.Prelude.{OnErr, OnOk, ◌&&◌, IfOk, if◌then◌else◌, is_some}
 use Rattle.std.specs.Result.{result_err}
 use Rattle.std.proofs.lemmas.Bool.{false≢true}
@@ -15,7 +15,7 @@ use Rattle.ffa_model.specs.declared.rights.Kind.TheVariants.{Share, Lend, Donate
 use Rattle.ffa_model.specs.declared.rights.Rights.{Rights}
 use Rattle.ffa_model.specs.Access.{access, is_receiver, names, ownership_of}
 use Rattle.ffa_model.specs.Calls.{first_failure, replied, served}
-use Rattle.ffa_model.specs.Identifiers.{place}
+use Rattle.ffa_model.specs.Identifiers.{place, identifier}
 use Rattle.ffa_model.specs.Memory.{zeroed_if}
 use Rattle.ffa_model.specs.MemorySend.{handle_reply, memory_send, memory_sent, is_told_normal, offered_in, send_guards, send_read, transaction_from, transaction_sent}
 use Rattle.ffa_model.specs.Ram.{Ram}
@@ -29,7 +29,7 @@ use Rattle.ffa_model.specs.Transactions.{next_handle, open_of, scene_of, with_op
 use Rattle.ffa_model.proofs.CallAccesses.{handle-new, runner-known, sendable-unnamed}
 use Rattle.ffa_laws.proofs.SendLaws.{IsOffer, offer}
 use Rattle.ffa_laws.proofs.SoundSends.{send-sound}
-use Rattle.ffa_pages.specs.Entry.{Entry, entry_at, slot_at}
+use Rattle.ffa_pages.specs.Entry.{Entry, entry_at, slot_at, own_right_at}
 use Rattle.ffa_rxtx.specs.Parts.{ownership_in}
 use Rattle.ffa_stage2.specs.Layout.{normal_in}
 use Rattle.ffa_memshare.specs.declared.changed.Changed.{Changed}
@@ -48,6 +48,7 @@ use Rattle.ffa_spmc.specs.AccessChange.{IsAccessChange, is_whose}
 use Rattle.ffa_spmc.specs.Meaning.{AreOpenTransactions, IsManager, IsOffered, Parts, access_by_place, state_of}
 use Rattle.ffa_spmc.specs.Replies.{change_told, value_or_error, value_reply}
 use Rattle.ffa_spmc.specs.Unowned.{KeepsUnowned}
+use Rattle.ffa_model.proofs.Places.{known-named}
 use Rattle.ffa_spmc.proofs.Answered.{answered-by, done-so, refused-so}
 use Rattle.ffa_spmc.proofs.Closes.{open-opened, slot-opened}
 use Rattle.ffa_spmc.proofs.Granted.{send-granted}
@@ -58,6 +59,14 @@ use Rattle.ffa_spmc.proofs.Pools.{named-kept, normal-is, own_right-is, ownership
 use Rattle.ffa_spmc.proofs.Retrieves.{scene-is}
 use Rattle.ffa_spmc.proofs.Sends.{sent-is}
 use Rattle.ffa_spmc.proofs.Unowned.{unowned-moved, unowned-same}
+use Rattle.std.proofs.Math.Bool.{and-false}
+use Rattle.ffa_physmem.specs.Moments.{Past}
+use Rattle.ffa_physmem.specs.Work.{AddsAtMost}
+use Rattle.ffa_physmem.proofs.Work.{adds-none}
+use Rattle.ffa_stage2.specs.Tables.{IsBuilt}
+use Rattle.ffa_memshare.specs.Work.{IsTakenFrom, sent_work}
+use Rattle.ffa_spmc.specs.Work.{is_block, send_work}
+use Rattle.ffa_spmc.proofs.Works.{blocks-stand, loses-by, nobodys, taken-from}
 use Rattle.ffa_spmc.proofs.MemoryParts.{memory_parts_in}
 
 -- the pool counts the sends of each endpoint
@@ -211,6 +220,19 @@ module _ (x : Parts) (machine : IsManager x) (e : ℕ) (at : e ≡ x.kept.chain.
         (λ f p lt its. inr (ap (λ (z : State). access z f p) state-from ∙ sent-lost s machine.sound f p lt kind r good.sender good.free (by-runner f p ∙ its)))
         (λ f p lt kept. ap (λ (z : State). access z f p) state-from ∙ sent-kept s machine.sound f p lt kind r good.sender good.free (by-runner f p ∙ kept)))
 
+    -- a share takes no right
+    from-state : IsTakenFrom kind (access_by_place s (place e)) (names s r.ranges) (own_right_at x.kept.pages) (is_block (access_by_place s (place e)))
+    from-state =
+        taken-from kind (access_by_place s (place e)) (names s r.ranges) (own_right_at x.kept.pages) (is_block (access_by_place s (place e)))
+        (λ share p named. elim (loses-by s (state_of after_offer) e r.ranges right granted
+        (λ q lt its. inr (ap (λ (z : State). access z (identifier (place e)) q) state-from
+        ∙ sent-kept s machine.sound (identifier (place e)) q lt kind r good.sender good.free
+        (ap (λ b. names s r.ranges q && b) (nobodys kind s.runner (identifier (place e)) share) ∙ and-false (names s r.ranges q)))) p named) [
+          | inl none ↦ inl none
+          | inr same ↦ inr (same ∙ kept-right kind p ∙ ap (λ b. if b then own_right_of s p else None) share ∙ sym (own_right-is x machine p))
+        ])
+        (blocks-stand (access_by_place s (place e)) (names s r.ranges) None)
+
   -- the clauses of the pool's call
   module _ (result : Result Value ErrorCode) (news : Option Changed)
       (refusal : result_err result ≡ first_failure (send_guards (scene_in (memory_parts_in x)) e a (send_of call.ffa kind bytes)))
@@ -261,3 +283,25 @@ module _ (x : Parts) (machine : IsManager x) (e : ℕ) (at : e ≡ x.kept.chain.
             → IsAccessChange s (state_of after_offer) (change_told r news)
         of (Ok sent) passes same facts = access-sent news passes facts
         of (Err code) fails same facts = none-changed s (state_of after_offer) (λ f p. ap (λ (y : Parts). access (state_of y) f p) same)
+
+    -- how much it does
+    pub offer-few : (past later : Past) → OnErr result (later ≡ past)
+        → ((offer : SendRecord) (rights : ℕ → ℕ → Option Rights) (split : ℕ → Bool) → send_of call.ffa kind bytes ≡ Some offer
+        → IsBuilt x.ram (array_vec_len x.kept.layout.regions) x.kept.layout.tables.0 x.kept.layout.blocks rights
+        → IsTakenFrom kind (rights (place e)) (in_ranges x.kept.layout.base.0 offer.ranges) (own_right_at x.kept.pages) split
+        → AddsAtMost past later (sent_work kind x.kept.layout.base.0 split offer.ranges offer.zero))
+        → AddsAtMost past later (send_work s kind (send_read s kind a.total))
+    offer-few past later kept_past few = of result refuses kept_past done
+      where
+        of : (r : Result Value ErrorCode) → result_err r ≡ first_failure guards → OnErr r (later ≡ past) → OnOk r (IsDone news) → AddsAtMost past later (send_work s kind (send_read s kind a.total))
+        of (Ok sent) passes same facts =
+            subst (AddsAtMost past later)
+            ((λ i. sent_work kind s.ram_base (is_block (access s ((ap (λ (f : ℕ). identifier (place f)) at ∙ known-named (length s.parties) s.runner (runner-known s machine.sound)) i))) facts.offer.ranges facts.offer.zero)
+            ∙ sym (ap (send_work s kind) (read news passes facts)))
+            (of-manifest x machine
+            (λ base n tables blocks. (rights : ℕ → ℕ → Option Rights) (split : ℕ → Bool) → IsBuilt x.ram n tables blocks rights
+            → IsTakenFrom kind (rights (place e)) (in_ranges base facts.offer.ranges) (own_right_at x.kept.pages) split
+            → AddsAtMost past later (sent_work kind base split facts.offer.ranges facts.offer.zero))
+            (λ rights split built from. few facts.offer rights split facts.described built from)
+            (access_by_place s) (is_block (access_by_place s (place e))) machine.tables.built (from-state news passes facts))
+        of (Err code) fails same facts = subst (λ (l : Past). AddsAtMost past l (send_work s kind (send_read s kind a.total))) (sym same) (adds-none (send_work s kind (send_read s kind a.total)))

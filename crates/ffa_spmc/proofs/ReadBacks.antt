@@ -1,7 +1,7 @@
 -- SPDX-License-Identifier: MIT OR Apache-2.0
 -- A hypervisor's retrieve changes the state as the small machine's: RX of the runner tells what it sent.
 use Rattle.std.proofs.Common.{◌≡◌, ◌∙◌, ℕ, Bool, true, false, List, length, take, Option, Some, None, Result, Ok, Err, refl, sym, ap, subst}
-use Rattle.std.specs.Prelude.{IfOk, OnErr, OnOk}
+use Rattle.std.specs.Prelude.{if◌then◌else◌, IfOk, OnErr, OnOk}
 use Rattle.std.specs.Option.{option_map_or}
 use Rattle.std.specs.Result.{result_err}
 use Rattle.ffa_model.specs.declared.call.Call.TheVariants.{MemRetrieve}
@@ -17,7 +17,7 @@ use Rattle.ffa_model.specs.Access.{access}
 use Rattle.ffa_model.specs.Calls.{Stepped, first_failure, replied, served}
 use Rattle.ffa_model.specs.DescriptorPlaces.{Versioned, in_version}
 use Rattle.ffa_model.specs.HypervisorRetrieve.{asks_back, back_guards, is_asked_back, back_length, handle_alone, handle_read, hypervisor_retrieve, memory_retrieve, read_back, retrieve_by, sent_record, told_back}
-use Rattle.ffa_model.specs.MemoryRetrieve.{receiver_retrieve}
+use Rattle.ffa_model.specs.MemoryRetrieve.{receiver_retrieve, retrieve_read}
 use Rattle.ffa_model.specs.Ram.{Ram}
 use Rattle.ffa_model.specs.ResponseBytes.{response_bytes, response_size}
 use Rattle.ffa_model.specs.State.{State, Transaction, Buffers, is_known, transaction_of, version_of}
@@ -33,6 +33,9 @@ use Rattle.ffa_rxtx.specs.Parts.{with_rx_bytes}
 use Rattle.ffa_tlb.specs.declared.translations.Entry.{Entry as Held}
 use Rattle.ffa_spmc.specs.Managed.{Managed}
 use Rattle.ffa_spmc.specs.Meaning.{HasTables, IsManager, Parts, access_by_place, state_of}
+use Rattle.ffa_model.specs.declared.call.Call.TheVariants.{MemRetrieve}
+use Rattle.ffa_physmem.specs.Work.{loans_of}
+use Rattle.ffa_spmc.specs.Work.{call_work, retrieve_work}
 use Rattle.ffa_spmc.specs.Served.{IsAnswered, IsReplied}
 use Rattle.ffa_spmc.specs.Unowned.{KeepsUnowned}
 use Rattle.ffa_spmc.specs.Replies.{reply_of}
@@ -181,9 +184,9 @@ module _ (x : Parts) (machine : IsManager x) (e : EndpointId) (at : e.0 ≡ x.ke
 
 -- a hypervisor's retrieve is answered by its part, and changes nobody's access
 pub answered-back : (old new : Managed) (held : List Held) (told : Option Changed) (registers : Transfer) (reply : Reply) → asks_back old.state registers ≡ true
-    → IsReplied old new (hypervisor_retrieve old.state registers) reply → IsAnswered old new held held told told true (memory_retrieve old.state registers) reply
+    → IsReplied old new (hypervisor_retrieve old.state registers) (loans_of 1) reply → IsAnswered old new held held told told true (memory_retrieve old.state registers) (call_work old.state (MemRetrieve registers)) reply
 answered-back old new held told registers reply asks its =
-    subst (λ (b : Bool). IsAnswered old new held held told told true (retrieve_by b old.state registers) reply) (sym asks)
+    subst (λ (b : Bool). IsAnswered old new held held told told true (retrieve_by b old.state registers) (if b then loans_of 1 else retrieve_work old.state (retrieve_read old.state registers.total)) reply) (sym asks)
     (record {
       changed = None;
       replied = its;
@@ -201,6 +204,7 @@ answered-back old new held told registers reply asks its =
 
 -- and a receiver's by its own
 pub answered-own : (old new : Managed) (held kept : List Held) (before now : Option Changed) (registers : Transfer) (reply : Reply) → asks_back old.state registers ≡ false
-    → IsAnswered old new held kept before now true (receiver_retrieve old.state registers) reply → IsAnswered old new held kept before now true (memory_retrieve old.state registers) reply
+    → IsAnswered old new held kept before now true (receiver_retrieve old.state registers) (retrieve_work old.state (retrieve_read old.state registers.total)) reply
+    → IsAnswered old new held kept before now true (memory_retrieve old.state registers) (call_work old.state (MemRetrieve registers)) reply
 answered-own old new held kept before now registers reply own its =
-    subst (λ (b : Bool). IsAnswered old new held kept before now true (retrieve_by b old.state registers) reply) (sym own) its
+    subst (λ (b : Bool). IsAnswered old new held kept before now true (retrieve_by b old.state registers) (if b then loans_of 1 else retrieve_work old.state (retrieve_read old.state registers.total)) reply) (sym own) its

@@ -1,11 +1,11 @@
 -- SPDX-License-Identifier: MIT OR Apache-2.0
 -- FFA_MEM_RECLAIM changes the state as the small machine's.
-use Rattle.std.proofs.Common.{◌≡◌, ◌∙◌, ℕ, ◌<◌, Bool, true, List, length, Option, Some, None, Result, Ok, Err, refl, sym, ap, subst, arith, inl}
+use Rattle.std.proofs.Common.{◌≡◌, ◌∙◌, ℕ, ◌<◌, Bool, true, List, length, Option, Some, None, Result, Ok, Err, refl, sym, ap, subst, arith, inl, inr}
 use Rattle.ffa_rxtx.specs.Parts.{ownership_in}
 use Rattle.std.specs.Prelude.{◌==◌, ◌&&◌, IfOk, OnOk, OnErr}
 use Rattle.std.specs.Result.{result_err}
 use Rattle.std.specs.FinMap as finite
-use Rattle.std.proofs.lemmas.Bool.{eqb-true, leb-true}
+use Rattle.std.proofs.lemmas.Bool.{eqb-true, leb-true, cases_Bool}
 use Rattle.std.proofs.lemmas.Bool.Decides.{nat_tests}
 use Rattle.arrayvec.specs.ArrayVec.{array_vec_len}
 use Rattle.ffa_model.specs.declared.refusal.Refusal.{Refusal}
@@ -13,7 +13,7 @@ use Rattle.ffa_model.specs.declared.operation.ErrorCode.{ErrorCode}
 use Rattle.ffa_model.specs.Access.{access, is_from, names, Ownership, ownership_of}
 use Rattle.ffa_model.specs.Bits.{is_set}
 use Rattle.ffa_model.specs.Calls.{first_failure, replied, served}
-use Rattle.ffa_model.specs.Identifiers.{place}
+use Rattle.ffa_model.specs.Identifiers.{place, identifier}
 use Rattle.ffa_model.specs.MemoryReturn.{is_unheld, memory_reclaim, named_ranges, reclaim_guards, reclaimed}
 use Rattle.ffa_model.specs.Memory.{zeroed_if}
 use Rattle.ffa_model.specs.Ram.{Ram}
@@ -38,6 +38,15 @@ use Rattle.ffa_spmc.specs.AccessChange.{IsAccessChange, is_whose}
 use Rattle.ffa_spmc.specs.Meaning.{AreOpenTransactions, IsManager, Parts, access_by_place, state_of}
 use Rattle.ffa_spmc.specs.Replies.{change_told, value_or_error, value_reply}
 use Rattle.ffa_spmc.specs.Unowned.{KeepsUnowned}
+use Rattle.std.specs.Option.{option_map_or}
+use Rattle.ffa_model.specs.declared.rights.Rights.{Rights}
+use Rattle.ffa_physmem.specs.Moments.{Past}
+use Rattle.ffa_physmem.specs.Work.{AddsAtMost, no_work}
+use Rattle.ffa_physmem.proofs.Work.{adds-none}
+use Rattle.ffa_stage2.specs.Tables.{IsBuilt}
+use Rattle.std.proofs.Math.Bool.{and-false}
+use Rattle.ffa_memshare.specs.Work.{LosesNone, given_work}
+use Rattle.ffa_spmc.proofs.Works.{loses-by}
 use Rattle.ffa_spmc.proofs.Answered.{answered-by, nothing-replies, done-so, refused-so}
 use Rattle.ffa_spmc.proofs.Closes.{open-closed, slot-marked}
 use Rattle.ffa_spmc.proofs.AccessChanges.{access-changed, none-changed, reclaimed-kept, reclaimed-new}
@@ -140,6 +149,15 @@ module _ (x : Parts) (machine : IsManager x) (e : ℕ) (at : e ≡ x.kept.chain.
     by-sender : (f p : ℕ) → (names s t.ranges p && is_whose (changed_sender t.kind t.sender) f) ≡ (names s t.ranges p && is_whose (changed_sender t.kind e) f)
     by-sender f p = ap (λ (g : ℕ). names s t.ranges p && is_whose (changed_sender t.kind g) f) sender
 
+    -- the sender has no right to the pages before, or its own
+    loses-none : LosesNone (access_by_place s (place e)) (names s t.ranges) (own_right_at x.kept.pages)
+    loses-none = loses-by s (state_of after_reclaim) e t.ranges (own_right_at x.kept.pages) granted
+        (λ p lt named. elim (cases_Bool (is_whose (changed_sender t.kind t.sender) (identifier (place e)))) [
+          | inl its ↦ inl (reclaimed-new s machine.sound (identifier (place e)) p lt h t was unheld (λ i. named i && its i))
+          | inr kept ↦ inr (ap (λ (z : State). access z (identifier (place e)) p) state-reclaimed
+              ∙ reclaimed-kept s machine.sound (identifier (place e)) p lt h t was unheld (is_set 0 flags) (ap (λ b. names s t.ranges p && b) kept ∙ and-false (names s t.ranges p)))
+        ])
+
     access-reclaimed : (news : Option Changed) → IsTold news → IsAccessChange s (state_of after_reclaim) news
     access-reclaimed news told =
         subst (IsAccessChange s (state_of after_reclaim)) (sym (told ∙ ap told_of was))
@@ -206,3 +224,25 @@ module _ (x : Parts) (machine : IsManager x) (e : ℕ) (at : e ≡ x.kept.chain.
         of : (r : Result Value ErrorCode) → result_err r ≡ first_failure guards → OnErr r (after_reclaim ≡ x) → OnOk r IsReclaimed → OnOk r (IsTold news) → IsAccessChange s (state_of after_reclaim) (change_told r news)
         of (Ok value) passes same facts is = access-reclaimed passes facts news is
         of (Err code) fails same facts is = none-changed s (state_of after_reclaim) (λ f p. ap (λ (y : Parts). access (state_of y) f p) same)
+
+    -- how much it does
+    pub reclaim-few : (past later : Past) → OnErr r (later ≡ past)
+        → ((rights : ℕ → ℕ → Option Rights) → IsBuilt x.ram (array_vec_len x.kept.layout.regions) x.kept.layout.tables.0 x.kept.layout.blocks rights
+        → LosesNone (rights (place e)) named (own_right_at x.kept.pages)
+        → AddsAtMost past later (given_work x.kept.layout.base.0 None (named_ranges (finite.get (map_in x.kept.pool.slots) h)) (flags == 1)))
+        → AddsAtMost past later (given_work s.ram_base None (named_ranges (transaction_of s h)) (flags == 1))
+    reclaim-few past later kept_past few = of r refuses kept_past done
+      where
+        of : (r : Result Value ErrorCode) → result_err r ≡ first_failure guards → OnErr r (later ≡ past) → OnOk r IsReclaimed
+            → AddsAtMost past later (given_work s.ram_base None (named_ranges (transaction_of s h)) (flags == 1))
+        of (Ok value) passes same facts =
+            of-manifest x machine
+            (λ base n tables blocks. (rights : ℕ → ℕ → Option Rights) → IsBuilt x.ram n tables blocks rights
+            → LosesNone (rights (place e)) (in_ranges base (named_ranges (finite.get (map_in x.kept.pool.slots) h))) (own_right_at x.kept.pages)
+            → AddsAtMost past later (given_work base None (named_ranges (finite.get (map_in x.kept.pool.slots) h)) (flags == 1)))
+            few
+            (access_by_place s) machine.tables.built
+            (subst (λ (o : Option Transaction). LosesNone (access_by_place s (place e)) (names s (named_ranges o)) (own_right_at x.kept.pages)) (sym (was passes facts)) (loses-none passes facts))
+        of (Err code) fails same facts =
+            subst (λ (l : Past). AddsAtMost past l (given_work s.ram_base None (named_ranges (transaction_of s h)) (flags == 1))) (sym same)
+            (adds-none (given_work s.ram_base None (named_ranges (transaction_of s h)) (flags == 1)))

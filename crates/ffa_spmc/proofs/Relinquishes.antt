@@ -10,7 +10,7 @@ use Rattle.ffa_model.specs.declared.descriptor.RelinquishDesc.{RelinquishDesc}
 use Rattle.ffa_model.specs.Access.{access, is_offered, is_receiver, names}
 use Rattle.ffa_model.specs.Buffers.{buffers_in}
 use Rattle.ffa_model.specs.Calls.{first_failure, replied, served}
-use Rattle.ffa_model.specs.Identifiers.{place}
+use Rattle.ffa_model.specs.Identifiers.{place, identifier}
 use Rattle.ffa_model.specs.MemoryReturn.{memory_relinquish, relinquish_guards, relinquish_read, relinquished, relinquished_from}
 use Rattle.ffa_model.specs.Memory.{zeroed_if}
 use Rattle.ffa_model.specs.Ram.{Ram}
@@ -27,12 +27,24 @@ use Rattle.ffa_memshare.specs.Changes.{IsMoved}
 use Rattle.ffa_memshare.specs.Grants.{with_rights}
 use Rattle.ffa_memshare.specs.Ranges.{in_ranges}
 use Rattle.ffa_memshare.specs.Relinquished.{IsRelinquished}
-use Rattle.ffa_memshare.specs.Stored.{Pooled, open_in}
+use Rattle.ffa_memshare.specs.Stored.{Pooled, open_in, transaction_in}
 use Rattle.ffa_rxtx.specs.Parts.{tx_in}
 use Rattle.ffa_spmc.specs.AccessChange.{IsAccessChange}
 use Rattle.ffa_spmc.specs.Meaning.{AreOpenTransactions, IsManager, Parts, access_by_place, state_of}
 use Rattle.ffa_spmc.specs.Replies.{change_told, value_or_error, value_reply}
 use Rattle.ffa_spmc.specs.Unowned.{KeepsUnowned}
+use Rattle.std.specs.Option.{option_map_or}
+use Rattle.ffa_model.specs.declared.rights.Rights.{Rights}
+use Rattle.ffa_physmem.specs.Moments.{Past}
+use Rattle.ffa_physmem.specs.Work.{AddsAtMost, no_work}
+use Rattle.ffa_physmem.proofs.Work.{adds-none}
+use Rattle.ffa_stage2.specs.Tables.{IsBuilt}
+use Rattle.ffa_memshare.specs.Work.{AreSplitsIn, taken_work}
+use Rattle.ffa_spmc.specs.Work.{is_block, is_runners_block, relinquish_work}
+use Rattle.ffa_model.proofs.Places.{known-named}
+use Rattle.ffa_model.proofs.CallAccesses.{runner-known}
+use Rattle.arrayvec.specs.ArrayVec.{array_vec_len}
+use Rattle.ffa_spmc.proofs.Works.{blocks-stand}
 use Rattle.ffa_spmc.proofs.Answered.{answered-by, nothing-replies, done-so, refused-so}
 use Rattle.ffa_spmc.proofs.Closes.{open-reheld}
 use Rattle.ffa_spmc.proofs.Granted.{relinquish-granted}
@@ -177,3 +189,28 @@ module _ (x : Parts) (machine : IsManager x) (e : ℕ) (at : e ≡ x.kept.chain.
         of : (r : Result Value ErrorCode) → result_err r ≡ first_failure guards → OnErr r (after_relinquish ≡ x) → OnOk r (IsDone news) → IsAccessChange s (state_of after_relinquish) (change_told r news)
         of (Ok d) passes same facts = access-relinquished news passes facts
         of (Err code) fails same facts = none-changed s (state_of after_relinquish) (λ f p. ap (λ (y : Parts). access (state_of y) f p) same)
+
+    -- how much it does
+    pub relinquish-few : (past later : Past) → OnErr r (later ≡ past)
+        → ((asked : RelinquishDesc) (t : Transaction) (rights : ℕ → ℕ → Option Rights) (split : ℕ → Bool) → relinquish_of bytes ≡ Some asked
+        → transaction_in x.kept.pool.slots asked.handle ≡ Some t
+        → IsBuilt x.ram (array_vec_len x.kept.layout.regions) x.kept.layout.tables.0 x.kept.layout.blocks rights
+        → AreSplitsIn (rights (place e)) (in_ranges x.kept.layout.base.0 t.ranges) None split
+        → AddsAtMost past later (taken_work x.kept.layout.base.0 split t.ranges asked.zero))
+        → AddsAtMost past later (relinquish_work s (relinquish_read s))
+    relinquish-few past later kept_past few = of r refuses kept_past done
+      where
+        of : (r : Result Value ErrorCode) → result_err r ≡ first_failure guards → OnErr r (later ≡ past) → OnOk r (IsDone news) → AddsAtMost past later (relinquish_work s (relinquish_read s))
+        of (Ok value) passes same facts =
+            let d : RelinquishDesc = facts.asked in
+            let t : Transaction = facts.transaction in
+            subst (AddsAtMost past later)
+            ((λ i. taken_work s.ram_base (is_block (access s ((ap (λ (f : ℕ). identifier (place f)) at ∙ known-named (length s.parties) s.runner (runner-known s machine.sound)) i))) t.ranges d.zero)
+            ∙ sym (ap (λ (o : Option Transaction). option_map_or (λ (q : Transaction). taken_work s.ram_base (is_runners_block s) q.ranges d.zero) o no_work) facts.was)
+            ∙ sym (ap (relinquish_work s) (read news passes facts)))
+            (of-manifest x machine
+            (λ base n tables blocks. (rights : ℕ → ℕ → Option Rights) (split : ℕ → Bool) → IsBuilt x.ram n tables blocks rights
+            → AreSplitsIn (rights (place e)) (in_ranges base t.ranges) None split → AddsAtMost past later (taken_work base split t.ranges d.zero))
+            (λ rights split built splits. few d t rights split facts.described facts.was built splits)
+            (access_by_place s) (is_block (access_by_place s (place e))) machine.tables.built (blocks-stand (access_by_place s (place e)) (names s t.ranges) None))
+        of (Err code) fails same facts = subst (λ (l : Past). AddsAtMost past l (relinquish_work s (relinquish_read s))) (sym same) (adds-none (relinquish_work s (relinquish_read s)))

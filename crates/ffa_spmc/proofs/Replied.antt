@@ -32,6 +32,9 @@ use Rattle.ffa_spmc.specs.Meaning.{Parts, state_of}
 use Rattle.ffa_spmc.specs.Replies.{change_told, done_or_error, message_or_error, reply_of, reply_or_error, value_or_error, value_reply}
 use Rattle.ffa_spmc.specs.Served.{IsAnswered, IsReplied, IsSilent, IsTold}
 use Rattle.ffa_spmc.specs.Moments.{AreMoments}
+use Rattle.ffa_physmem.specs.Work.{AddsAtMost, Work, no_work}
+use Rattle.ffa_physmem.proofs.Work.{adds-none}
+use Rattle.ffa_spmc.specs.Work.{call_work}
 use Rattle.ffa_spmc.specs.Unowned.{KeepsUnowned}
 use Rattle.ffa_spmc.proofs.AccessChanges.{access-served, none-changed}
 use Rattle.ffa_spmc.proofs.Moments.{no-moments, still-moments}
@@ -97,36 +100,39 @@ kept-buffers x (Err code) ram pages pool buffers same_ram same_pages same_pool s
 -- what is so of the parts is so of what contracts see
 module _ (x y : Parts) {past : Past} (now : Managed) (seen : managed_of x past ≡ now) (c : State → Service) (reply : Reply) where
   pub replied-with : (later : Past) → replied (state_of y) reply ≡ served (state_of x) (c (state_of x)) → (is_error reply ≡ true → y ≡ x) → (is_error reply ≡ true → later ≡ past)
-      → KeepsUnowned (state_of x) x.ram y.ram → AreMoments (state_of x) x.ram y.ram past later → IsReplied now (managed_of y later) (c now.state) reply
-  replied-with later is kept kept_past unowned moments =
+      → KeepsUnowned (state_of x) x.ram y.ram → AreMoments (state_of x) x.ram y.ram past later → (most : State → Work) → AddsAtMost past later (most (state_of x))
+      → IsReplied now (managed_of y later) (c now.state) (most now.state) reply
+  replied-with later is kept kept_past unowned moments most few =
       record {
         served = is ∙ ap (λ (m : Managed). served m.state (c m.state)) seen;
         refused = λ error. (λ i. managed_of (kept error i) (kept_past error i)) ∙ seen;
         unowned = subst (λ (m : Managed). KeepsUnowned m.state m.ram y.ram) seen unowned;
         moments = subst (λ (m : Managed). AreMoments m.state m.ram y.ram m.past later) seen moments;
+        few = subst (λ (m : Managed). AddsAtMost m.past later (most m.state)) seen few;
       }
 
   -- where RAM is left as it was
   pub replied-beside : replied (state_of y) reply ≡ served (state_of x) (c (state_of x)) → (is_error reply ≡ true → y ≡ x) → y.ram ≡ x.ram
-      → IsReplied now (managed_of y past) (c now.state) reply
+      → IsReplied now (managed_of y past) (c now.state) no_work reply
   replied-beside is kept same = replied-with past is kept (λ error. refl) (λ p behind none. ap (λ (r : Ram). page_of r p) same)
-      (still-moments (state_of x) x.ram y.ram past past same refl)
+      (still-moments (state_of x) x.ram y.ram past past same refl) (λ _. no_work) (adds-none no_work)
 
 -- and of a call on memory, after which these are the news
 module _ (x y : Parts) {past : Past} (now : Managed) (seen : managed_of x past ≡ now) (c : State → Service) (r : Result Value ErrorCode) (news : Option Changed) where
   pub told-with : (later : Past) → replied (state_of y) (value_or_error r) ≡ served (state_of x) (c (state_of x)) → OnErr r (y ≡ x) → OnErr r (later ≡ past)
       → KeepsUnowned (state_of x) x.ram y.ram → AreMoments (state_of x) x.ram y.ram past later → IsAccessChange (state_of x) (state_of y) (change_told r news)
-      → IsTold now (managed_of y later) (c now.state) r news
-  told-with later is kept kept_past unowned moments change =
+      → (most : State → Work) → AddsAtMost past later (most (state_of x)) → IsTold now (managed_of y later) (c now.state) (most now.state) r news
+  told-with later is kept kept_past unowned moments change most few =
       record {
-        replied = replied-with x y now seen c (value_or_error r) later is (refused-value r kept) (refused-value r kept_past) unowned moments;
+        replied = replied-with x y now seen c (value_or_error r) later is (refused-value r kept) (refused-value r kept_past) unowned moments most few;
         access = subst (λ (m : Managed). IsAccessChange m.state (state_of y) (change_told r news)) seen change;
         unchanged = refused-value r (silent-refusal r news);
       }
 
 -- a call that changes nothing
-pub replied-still : (old : Managed) (c : Service) (reply : Reply) → replied old.state reply ≡ served old.state c → IsReplied old old c reply
-replied-still old c reply is = record { served = is; refused = λ error. refl; unowned = λ p behind none. refl; moments = no-moments old.state old.ram old.past }
+pub replied-still : (old : Managed) (c : Service) (reply : Reply) → replied old.state reply ≡ served old.state c → IsReplied old old c no_work reply
+replied-still old c reply is =
+    record { served = is; refused = λ error. refl; unowned = λ p behind none. refl; moments = no-moments old.state old.ram old.past; few = adds-none no_work }
 
 -- FFA_FEATURES answers alike where its check fails and where it passes
 featured : (may : Bool) (s : State) (told : Reply) → replied s (cond may told (Error NotSupported))
@@ -135,16 +141,16 @@ featured true s told = refl
 featured false s told = refl
 
 pub replied-features : (old : Managed) (function : ℕ) (reply : Reply) → reply ≡ features_reply old.state.ffa old.state.runner (version_of old.state old.state.runner) function
-    → IsReplied old old (features old.state function) reply
+    → IsReplied old old (features old.state function) no_work reply
 replied-features old function reply is =
     replied-still old (features old.state function) reply
     (ap (replied old.state) is ∙ featured (may_call old.state.ffa old.state.runner function) old.state _)
 
 -- a call that isn't on memory changes nobody's access, and what a cache holds stays
 pub answered-beside : (old new : Managed) (held : List Held) (told : Option Changed) (call same : calls.Call) (reply : Reply) → call ≡ same → is_memory_call same ≡ false
-    → IsReplied old new (service old.state same) reply → IsAnswered old new held held told told (is_memory_call call) (service old.state call) reply
+    → IsReplied old new (service old.state same) (call_work old.state same) reply → IsAnswered old new held held told told (is_memory_call call) (service old.state call) (call_work old.state call) reply
 answered-beside old new held told call same reply is beside its =
-    subst (λ (a : calls.Call). IsAnswered old new held held told told (is_memory_call a) (service old.state a) reply) (sym is)
+    subst (λ (a : calls.Call). IsAnswered old new held held told told (is_memory_call a) (service old.state a) (call_work old.state a) reply) (sym is)
     (record {
       changed = None;
       replied = its;
@@ -160,6 +166,6 @@ answered-beside old new held told call same reply is beside its =
 
 -- a call on memory is answered by its part
 pub answered-as : (old new : Managed) (held kept : List Held) (before now : Option Changed) (call same : calls.Call) (reply : Reply) → call ≡ same
-    → IsAnswered old new held kept before now (is_memory_call same) (service old.state same) reply → IsAnswered old new held kept before now (is_memory_call call) (service old.state call) reply
+    → IsAnswered old new held kept before now (is_memory_call same) (service old.state same) (call_work old.state same) reply → IsAnswered old new held kept before now (is_memory_call call) (service old.state call) (call_work old.state call) reply
 answered-as old new held kept before now call same reply is its =
-    subst (λ (a : calls.Call). IsAnswered old new held kept before now (is_memory_call a) (service old.state a) reply) (sym is) its
+    subst (λ (a : calls.Call). IsAnswered old new held kept before now (is_memory_call a) (service old.state a) (call_work old.state a) reply) (sym is) its

@@ -1,10 +1,10 @@
 -- SPDX-License-Identifier: MIT OR Apache-2.0
 -- FFA_MEM_RETRIEVE_REQ changes the state as the small machine's.
-use Rattle.std.proofs.Common.{◌≡◌, ◌∙◌, ℕ, ◌<◌, Bool, true, false, List, length, take, Option, Some, None, Result, Ok, Err, refl, sym, ap, subst, inl}
+use Rattle.std.proofs.Common.{◌≡◌, ◌∙◌, ℕ, ◌<◌, Bool, true, false, List, length, take, Option, Some, None, Result, Ok, Err, refl, sym, ap, subst, inl, inr}
 use Rattle.std.specs.Prelude.{◌==◌, ◌&&◌, is_none, IfOk, OnOk, OnErr, ◌++◌}
 use Rattle.std.specs.Option.{option_map_or}
 use Rattle.std.specs.Result.{result_err}
-use Rattle.std.proofs.lemmas.Bool.{false≢true}
+use Rattle.std.proofs.lemmas.Bool.{false≢true, cases_Bool}
 use Rattle.std.proofs.lemmas.Option.{same_Some}
 use Rattle.ffa_model.specs.declared.refusal.Refusal.{Refusal}
 use Rattle.ffa_model.specs.MemorySend.{transfer_guards}
@@ -47,11 +47,20 @@ use Rattle.ffa_memshare.specs.Ranges.{in_ranges}
 use Rattle.ffa_memshare.specs.Retrieved.{IsPassedOn, IsRetrieved, IsTaken}
 use Rattle.ffa_memshare.specs.Scenes.{descriptor_in, scene_in}
 use Rattle.ffa_memshare.specs.SlotChanges.{IsClosed, IsHeldBy}
-use Rattle.ffa_memshare.specs.Stored.{Pooled, open_in, pool_slot}
+use Rattle.ffa_memshare.specs.Stored.{Pooled, open_in, pool_slot, transaction_in}
 use Rattle.ffa_spmc.specs.AccessChange.{IsAccessChange}
 use Rattle.ffa_spmc.specs.Meaning.{AreOpenTransactions, HasTables, IsManager, IsOffered, Parts, access_by_place, state_of}
 use Rattle.ffa_spmc.specs.Replies.{change_told, value_or_error, value_reply}
 use Rattle.ffa_spmc.specs.Unowned.{KeepsUnowned}
+use Rattle.ffa_physmem.specs.Moments.{Past}
+use Rattle.ffa_physmem.specs.Work.{AddsAtMost, no_work}
+use Rattle.ffa_physmem.proofs.Work.{adds-none}
+use Rattle.ffa_stage2.specs.Tables.{IsBuilt}
+use Rattle.std.proofs.Math.Bool.{and-false}
+use Rattle.ffa_memshare.specs.Work.{LosesNone, retrieved_work}
+use Rattle.ffa_spmc.specs.Work.{retrieve_work}
+use Rattle.arrayvec.specs.ArrayVec.{array_vec_len}
+use Rattle.ffa_spmc.proofs.Works.{loses-by}
 use Rattle.ffa_spmc.proofs.Answered.{answered-by, passed-state, refused-so}
 use Rattle.ffa_spmc.proofs.Closes.{open-closed, open-reheld}
 use Rattle.ffa_spmc.proofs.Donations.{owners-passed, pages-passed}
@@ -263,6 +272,26 @@ module _ (x : Parts) (machine : IsManager x) (e : EndpointId) (at : e.0 ≡ x.ke
     by-runner : (f p : ℕ) → (names s t.ranges p && s.runner == f) ≡ (names s t.ranges p && e.0 == f)
     by-runner f p = ap (λ (g : ℕ). names s t.ranges p && g == f) (sym at)
 
+    none-of : (o : Option Rights) → is_none o ≡ true → o ≡ None
+    none-of None is = refl
+    none-of (Some its) is = absurd (false≢true is)
+
+    unheld : held_by t s.runner ≡ None
+    unheld = none-of (held_by t s.runner) (guard-passes checked 10 passes)
+
+    other : t.sender ≡ s.runner → ⊥
+    other same = false≢true (sym offered.other ∙ ap (λ (f : ℕ). is_receiver f t) same ∙ receiver)
+
+    -- the receiver has no right to the pages before
+    loses-none : LosesNone (access_by_place s (place e.0)) (names s t.ranges) (λ _. Some right)
+    loses-none = loses-by s (state_of before) e.0 t.ranges (λ _. Some right) access-taken
+        (λ p lt named. elim (cases_Bool (s.runner == identifier (place e.0))) [
+          | inl its ↦ inl (retrieved-new s machine.sound (identifier (place e.0)) p lt d.handle t was s.runner unheld other (λ i. named i && its i))
+          | inr kept ↦ inr (ap (λ (z : State). access z (identifier (place e.0)) p) state-taken
+              ∙ sym (access-filled (with_retrieved s d.handle t s.runner right) s.runner (response_bytes (version_of s s.runner) (response_to d.handle t s.runner right)) (identifier (place e.0)) p)
+              ∙ retrieved-kept s machine.sound (identifier (place e.0)) p lt d.handle t was s.runner right (ap (λ b. names s t.ranges p && b) kept ∙ and-false (names s t.ranges p)))
+        ])
+
     pub access-retrieved : IsAccessChange s (state_of after_retrieve) news
     access-retrieved =
         subst (IsAccessChange s (state_of after_retrieve)) (sym done.access)
@@ -271,16 +300,6 @@ module _ (x : Parts) (machine : IsManager x) (e : EndpointId) (at : e.0 ≡ x.ke
         (λ f p lt kept.
         ap (λ (z : State). access z f p) (state-retrieved ∙ ap (retrieved s) read ∙ ap (retrieved_from s d) was)
         ∙ retrieved-kept s machine.sound f p lt d.handle t was s.runner (right_for (ownership_of s) t s.runner d) (by-runner f p ∙ kept)))
-      where
-        none-of : (o : Option Rights) → is_none o ≡ true → o ≡ None
-        none-of None is = refl
-        none-of (Some its) is = absurd (false≢true is)
-
-        unheld : held_by t s.runner ≡ None
-        unheld = none-of (held_by t s.runner) (guard-passes checked 10 passes)
-
-        other : t.sender ≡ s.runner → ⊥
-        other same = false≢true (sym offered.other ∙ ap (λ (f : ℕ). is_receiver f t) same ∙ receiver)
 
   -- the clauses of the pool's call
   module _ (r : Result Value ErrorCode) (news : Option Changed)
@@ -340,3 +359,34 @@ module _ (x : Parts) (machine : IsManager x) (e : EndpointId) (at : e.0 ≡ x.ke
             → IsAccessChange s (state_of after_retrieve) (change_told r news)
         of (Ok value) none same fills facts = access-retrieved news value none facts fills
         of (Err code) fails same fills facts = none-changed s (state_of after_retrieve) (λ f p. ap (λ (y : Parts). access (state_of y) f p) same)
+
+    -- how much it does
+    pub retrieve-few : (past later : Past) → OnErr r (later ≡ past)
+        → ((asked : RetrieveDesc) (t : Transaction) (rights : ℕ → ℕ → Option Rights) → retrieve_of call.ffa e.0 bytes ≡ Some asked
+        → transaction_in x.kept.pool.slots asked.handle ≡ Some t
+        → IsBuilt x.ram (array_vec_len x.kept.layout.regions) x.kept.layout.tables.0 x.kept.layout.blocks rights
+        → LosesNone (rights (place e.0)) (in_ranges x.kept.layout.base.0 t.ranges) (λ _. Some (right_for (ownership_in x.kept.pages x.kept.layout.base.0) t e.0 asked))
+        → AddsAtMost past later (retrieved_work x.kept.layout.base.0 (right_for (ownership_in x.kept.pages x.kept.layout.base.0) t e.0 asked) t.ranges))
+        → AddsAtMost past later (retrieve_work s (retrieve_read s total))
+    retrieve-few past later kept_past few = of r refuses kept_past full done
+      where
+        of : (r : Result Value ErrorCode) → result_err r ≡ first_failure guards → OnErr r (later ≡ past) → OnOk r (buffers ≡ buffers_with_rx x.kept.buffers e.0 true) → IfOk r (IsDone news)
+            → AddsAtMost past later (retrieve_work s (retrieve_read s total))
+        of (Ok value) passes same fills facts =
+            let d : RetrieveDesc = facts.asked in
+            let t : Transaction = facts.transaction in
+            let is = right-is news value passes facts fills in
+            subst (AddsAtMost past later)
+            (ap (λ (q : Rights). retrieved_work s.ram_base q t.ranges) is
+            ∙ sym (ap (λ (o : Option Transaction). option_map_or (λ (q : Transaction). retrieved_work s.ram_base (right_for (ownership_of s) q s.runner d) q.ranges) o no_work) facts.was)
+            ∙ sym (ap (retrieve_work s) (read news value passes facts fills)))
+            (subst (λ (q : Rights). LosesNone (access_by_place s (place e.0)) (names s t.ranges) (λ _. Some q) → AddsAtMost past later (retrieved_work s.ram_base q t.ranges))
+            (sym (facts.is ∙ ap (λ (b : ℕ). right_for (ownership_in x.kept.pages b) t e.0 d) machine.layout.base))
+            (of-manifest x machine
+            (λ base n tables blocks. (rights : ℕ → ℕ → Option Rights) → IsBuilt x.ram n tables blocks rights
+            → LosesNone (rights (place e.0)) (in_ranges base t.ranges) (λ _. Some (right_for (ownership_in x.kept.pages base) t e.0 d))
+            → AddsAtMost past later (retrieved_work base (right_for (ownership_in x.kept.pages base) t e.0 d) t.ranges))
+            (λ rights built loses. few d t rights facts.described facts.was built loses)
+            (access_by_place s) machine.tables.built)
+            (loses-none news value passes facts fills))
+        of (Err code) fails same fills facts = subst (λ (l : Past). AddsAtMost past l (retrieve_work s (retrieve_read s total))) (sym same) (adds-none (retrieve_work s (retrieve_read s total)))

@@ -1,6 +1,7 @@
 -- SPDX-License-Identifier: MIT OR Apache-2.0
 pub mod Managed
 pub mod Walks
+pub mod Work
 pub mod Snapshot
 pub mod Cached
 pub mod Caching

@@ -11,12 +11,14 @@ use Rattle.ffa_model.specs.SoundState.{IsSoundState}
 use Rattle.ffa_model.specs.Step.{step}
 use Rattle.ffa_laws.specs.OwnAccess.{AreApart, AreWorldsApart}
 use Rattle.ffa_physmem.specs.Moments.{Only}
+use Rattle.ffa_physmem.specs.Work.{AddsAtMost}
 use Rattle.ffa_stage2.specs.Moments.{IsInOrder, WalksSameIn}
 use Rattle.ffa_spmc.specs.AccessChange.{IsTelling}
 use Rattle.ffa_spmc.specs.Cached.{AreForgotten, AreKept, AreSameOrGone, AreWalks, is_accessed, is_miss}
 use Rattle.ffa_spmc.specs.Mixtures.{StayMixed}
 use Rattle.ffa_spmc.specs.Snapshot.{Snapshot}
 use Rattle.ffa_spmc.specs.Unowned.{KeepsUnowned}
+use Rattle.ffa_spmc.specs.Work.{most_work}
 
 -- what an operation leaves of a machine
 pub record IsOperated (old : Snapshot) (op : Op) (new : Snapshot) : Type 0 where
@@ -37,6 +39,8 @@ pub record IsOperated (old : Snapshot) (op : Op) (new : Snapshot) : Type 0 where
   -- of order. So no step disturbs an endpoint in a block to which its accesses stay. A page changes only while nobody may reach it but
   -- who does both before and after. After it the tables are at rest.
   pub mixtures : StayMixed old.state old.ram new.ram old.past new.past
+  -- Its steps do at most what the call names: a number for each range and page, and for each block that is joined or split.
+  pub few : AddsAtMost old.past new.past (most_work old.state op)
   -- What the cache answers is the walk's answer over the bytes of the new RAM. It holds nothing for a page to which an endpoint's
   -- access has changed. All else stays, except for an access that misses: it may take the place of others, and only the runner's
   -- page is new.

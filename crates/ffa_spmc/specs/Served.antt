@@ -6,6 +6,7 @@ use Rattle.std.specs.Option.{option_or}
 use Rattle.ffa_model.specs.declared.call.Reply.{Reply}
 use Rattle.ffa_model.specs.Calls.{Service, replied, served}
 use Rattle.ffa_model.specs.Refusals.{is_error}
+use Rattle.ffa_physmem.specs.Work.{AddsAtMost, Work}
 use Rattle.ffa_tlb.specs.declared.translations.Entry.{Entry}
 use Rattle.ffa_model.specs.declared.operation.ErrorCode.{ErrorCode}
 use Rattle.ffa_memshare.specs.declared.changed.Changed.{Changed}
@@ -17,17 +18,18 @@ use Rattle.ffa_spmc.specs.Moments.{AreMoments}
 use Rattle.ffa_spmc.specs.Replies.{change_told, value_or_error}
 use Rattle.ffa_spmc.specs.Unowned.{KeepsUnowned}
 
--- a call of the runner is replied to as the small machine does
-pub record IsReplied (old new : Managed) (c : Service) (reply : Reply) : Type 0 where
+-- a call of the runner is replied to as the small machine does, with at most so much work
+pub record IsReplied (old new : Managed) (c : Service) (most : Work) (reply : Reply) : Type 0 where
   pub served : replied new.state reply ≡ served old.state c
   -- a refusal changes nothing
   pub refused : is_error reply ≡ true → new ≡ old
   pub unowned : KeepsUnowned old.state old.ram new.ram
   pub moments : AreMoments old.state old.ram new.ram old.past new.past
+  pub few : AddsAtMost old.past new.past most
 
 -- and what the news after a call on memory tell that it changes of access is so
-pub record IsTold (old new : Managed) (c : Service) (done : Result Value ErrorCode) (news : Option Changed) : Type 0 where
-  pub replied : IsReplied old new c (value_or_error done)
+pub record IsTold (old new : Managed) (c : Service) (most : Work) (done : Result Value ErrorCode) (news : Option Changed) : Type 0 where
+  pub replied : IsReplied old new c most (value_or_error done)
   pub access : IsAccessChange old.state new.state (change_told done news)
   pub unchanged : is_error (value_or_error done) ≡ true → change_told done news ≡ None
 
@@ -38,9 +40,9 @@ IsSilent false changed = changed ≡ None
 
 -- a call of the runner is replied to, a cache that held one list of entries holds another that forgets what changed, and that is
 -- told, or else what was told before, as always where the call isn't on memory
-pub record IsAnswered (old new : Managed) (held kept : List Entry) (before now : Option Changed) (on_memory : Bool) (c : Service) (reply : Reply) : Type 0 where
+pub record IsAnswered (old new : Managed) (held kept : List Entry) (before now : Option Changed) (on_memory : Bool) (c : Service) (most : Work) (reply : Reply) : Type 0 where
   pub changed : Option Changed
-  pub replied : IsReplied old new c reply
+  pub replied : IsReplied old new c most reply
   pub forgotten : IsForgotten old.state new.state held kept changed
   pub told : now ≡ option_or changed before
   pub silent : IsSilent on_memory changed

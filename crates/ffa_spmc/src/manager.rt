@@ -21,6 +21,8 @@ ghost use Rattle.ffa_spmc.specs.Storages.{IsRoomFor};
 ghost use Rattle.ffa_spmc.specs.Mixtures.{TablesRest};
 ghost use Rattle.ffa_spmc.specs.Moments.{AreMoments};
 ghost use Rattle.ffa_spmc.specs.Unowned.{KeepsUnowned};
+ghost use Rattle.ffa_physmem.specs.Work.{AddsAtMost};
+ghost use Rattle.ffa_spmc.specs.Work.{call_work};
 
 mod accesses;
 mod buffers;
@@ -214,6 +216,7 @@ impl<M: PhysMem + Drop, S: Store> Manager<M, S> {
         ensures refused { is_refusal outcome.new ≡ true → self.new ≡ self.old }
         ensures unowned { KeepsUnowned self.old.state self.old.ram self.new.ram }
         ensures moments { AreMoments self.old.state self.old.ram self.new.ram self.old.past self.new.past }
+        ensures few { AddsAtMost self.old.past self.new.past (call_work self.old.state (decode x.now)) }
         ensures changed { (changed : Option Changed)
             × IsForgotten self.old.state self.new.state (T.entries cache.old) (T.entries cache.new) changed
             × (news.new ≡ option_or changed news.old)
@@ -240,7 +243,7 @@ impl<M: PhysMem + Drop, S: Store> Manager<M, S> {
     fn reply<T: Translations>(&mut self, call: &Call, cache: &mut T, news: &mut News) -> Reply
         requires { passes_no_error call.now ≡ true }
         ensures { IsAnswered self.old self.new (T.entries cache.old) (T.entries cache.new) news.old news.new
-            (is_memory_call call.now) (service self.old.state call.now) result }
+            (is_memory_call call.now) (service self.old.state call.now) (call_work self.old.state call.now) result }
     {
         match call {
             Call::Version { version } => self.ffa_version(*version),

@@ -18,3 +18,4 @@ pub mod Mixtures
 pub mod Unshaken
 pub mod Rest
 pub mod Amid
+pub mod Work

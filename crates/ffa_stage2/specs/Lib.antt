@@ -11,3 +11,4 @@ pub mod Places
 pub mod Rest
 pub mod Tables
 pub mod Words
+pub mod Work

@@ -1,7 +1,7 @@
 // SPDX-License-Identifier: MIT OR Apache-2.0
 //! One block of RAM in an endpoint's tables: a block of 2 MiB where its 512 pages have one right other than nothing, and
 //! else a table of level 3.
-ghost use Rattle.std.specs.Prelude.{◌≡◌, ℕ, ◌+◌, ◌*◌, ◌%◌, ◌^◌, ◌<◌, ◌≤◌, ◌↔◌, ◌⊎◌, IsTrue, is_some, false, true, length, Option, Some};
+ghost use Rattle.std.specs.Prelude.{◌≡◌, ℕ, ◌+◌, ◌-◌, ◌*◌, ◌%◌, ◌^◌, ◌<◌, ◌≤◌, ◌↔◌, ◌⊎◌, IsTrue, is_some, false, true, length, Option, Some};
 ghost use Rattle.arrayvec.specs.ArrayVec.{array_vec_len};
 ghost use Rattle.ffa_model.specs.Ram.{page_of};
 ghost use Rattle.ffa_model.specs.Descriptor.{page_word};
@@ -9,8 +9,10 @@ ghost use Rattle.ffa_model.specs.declared.rights.Rights.{Rights};
 ghost use Rattle.ffa_stage2.specs.Blocks.{IsMixed, IsOne};
 ghost use Rattle.ffa_stage2.specs.Tables.{HasRoom};
 ghost use Rattle.ffa_physmem.specs.Moments.{Only};
+ghost use Rattle.ffa_physmem.specs.Work.{AddsAtMost};
 ghost use Rattle.ffa_stage2.specs.Orders.{IsLinkOrBlock, IsWritten};
 ghost use Rattle.ffa_stage2.specs.Places.{IsPlace, IsCut, IsFilled, IsFilling, IsOnTheWay, IsOrderly, IsReplacing, IsOneOf, IsSameRun, Maps, Names, KeepsBeside, with_run, word_at, IsPlaceOf};
+ghost use Rattle.ffa_stage2.specs.Work.{IsCarry, IsChange, IsSplitOf, change_work, run_words};
 
 use crate::layout::Layout;
 use crate::runs::is_uniform;
@@ -114,6 +116,7 @@ fn replace<M: PhysMem>(memory: &mut M, place: &BlockPlace, word: u64)
     ensures steps { Only (M.past memory.old) (M.past memory.new)
         (λ h s. IsReplacing (M.ram memory.old) (M.ram memory.new) place.now h s) }
     ensures orders { Only (M.past memory.old) (M.past memory.new) (λ h s. IsOrderly place.now ⊥ h s) }
+    ensures few { AddsAtMost (M.past memory.old) (M.past memory.new) (change_work 0 1 0) }
 {
     memory.write_word(place.middle, place.entry, 0);
     memory.settle(place.endpoint, place.first, 512);
@@ -135,6 +138,10 @@ fn join<M: PhysMem>(memory: &mut M, place: &BlockPlace, within: u32, right: Opti
         → Names (M.ram memory.old) place.now rights
         → rights within ≡ right
         → Only (M.past memory.old) (M.past memory.new) (λ h s. IsOrderly place.now (IsMixed rights) h s) }
+    ensures few { (rights : ℕ → Option Rights)
+        → Names (M.ram memory.old) place.now rights
+        → rights within ≡ right
+        → (joins : ℕ) × AddsAtMost (M.past memory.old) (M.past memory.new) (change_work 0 joins 0) × IsCarry rights joins }
 {
     if is_one(memory, place, within, right) {
         let word = leaf(place.address, right) - PAGE;
@@ -155,6 +162,7 @@ fn write_words<M: PhysMem>(memory: &mut M, table: PageNo, from: u32, to: u32, fi
         (λ _ s. IsFilling (M.ram memory.old) s.after table.0 from to (λ j. first + step * j)) }
     ensures orders { Only (M.past memory.old) (M.past memory.new)
         (λ _ s. IsOneOf (M.ram memory.old) table.0 from to (λ j. first + step * j) s) }
+    ensures few { AddsAtMost (M.past memory.old) (M.past memory.new) (change_work (to - from) 0 0) }
 {
     for place in from..to {
         memory.write_word(table, place as usize, first + step * u64::from(place));
@@ -175,6 +183,7 @@ fn keep<M: PhysMem>(memory: &mut M, place: &BlockPlace, from: u32, to: u32, word
     ensures orders { let words = λ (j : ℕ). word + 2 + 4096 * j in
         Only (M.past memory.old) (M.past memory.new)
         (λ _ s. IsOneOf (M.ram memory.old) place.now.table.0 from to words s) }
+    ensures few { AddsAtMost (M.past memory.old) (M.past memory.new) (change_work (to - from) 0 0) }
 {
     write_words(memory, place.table, from, to, word + PAGE, PAGE_SIZE as u64);
 }
@@ -192,6 +201,7 @@ fn fill<M: PhysMem>(memory: &mut M, place: &BlockPlace, from: u32, to: u32, righ
     ensures orders { let words = λ (j : ℕ). page_word (place.now.address + 4096 * j) right in
         Only (M.past memory.old) (M.past memory.new)
         (λ _ s. IsOneOf (M.ram memory.old) place.now.table.0 from to words s) }
+    ensures few { AddsAtMost (M.past memory.old) (M.past memory.new) (change_work (to - from) 0 0) }
 {
     let step = if right.is_some() { PAGE_SIZE as u64 } else { 0 };
     write_words(
@@ -216,6 +226,12 @@ fn put_block<M: PhysMem>(memory: &mut M, place: &BlockPlace, right: Option<Right
     ensures orders { (rights : ℕ → Option Rights)
         → Maps (M.ram memory.old) place.now rights
         → Only (M.past memory.old) (M.past memory.new) (λ h s. IsOrderly place.now (IsSameRun rights 0 512 right) h s) }
+    // A table becomes a block, or the block's word is stored.
+    ensures few { (rights : ℕ → Option Rights)
+        → Maps (M.ram memory.old) place.now rights
+        → (carry : ℕ)
+        → IsCarry rights carry
+        → (joins : ℕ) × (joins + carry ≤ 1) × AddsAtMost (M.past memory.old) (M.past memory.new) (change_work 1 joins 0) }
 {
     let word = leaf(place.address, right) - PAGE;
     let now = place.word(memory);
@@ -256,6 +272,12 @@ fn split<M: PhysMem>(
     ensures orders { (rights : ℕ → Option Rights)
         → Maps (M.ram memory.old) place.now rights
         → Only (M.past memory.old) (M.past memory.new) (λ h s. IsOrderly place.now (IsSameRun rights from to right) h s) }
+    ensures few { (rights : ℕ → Option Rights)
+        → Maps (M.ram memory.old) place.now rights
+        → (carry : ℕ)
+        → IsCarry rights carry
+        → let after = with_run rights from to right in
+        IsChange (M.past memory.old) (M.past memory.new) 0 0 carry (IsCarry after) (IsSplitOf rights right) }
 {
     if leaf(place.address, right) == word + PAGE {
         return;
@@ -289,6 +311,10 @@ fn change_table<M: PhysMem>(
         → Names (M.ram memory.old) place.now rights
         → IsMixed rights
         → Only (M.past memory.old) (M.past memory.new) (λ h s. IsOrderly place.now (IsSameRun rights from to right) h s) }
+    ensures few { (rights : ℕ → Option Rights)
+        → Names (M.ram memory.old) place.now rights
+        → let after = with_run rights from to right in
+        (joins : ℕ) × AddsAtMost (M.past memory.old) (M.past memory.new) (change_work (to - from) joins 0) × IsCarry after joins }
 {
     fill(memory, place, from, to, right);
     join(memory, place, to - 1, right);
@@ -326,6 +352,12 @@ pub(crate) fn change<M: PhysMem>(
     ensures orders { (rights : ℕ → Option Rights)
         → Maps (M.ram memory.old) place.now rights
         → Only (M.past memory.old) (M.past memory.new) (λ h s. IsOrderly place.now (IsSameRun rights from to right) h s) }
+    ensures few { (rights : ℕ → Option Rights)
+        → Maps (M.ram memory.old) place.now rights
+        → (carry : ℕ)
+        → IsCarry rights carry
+        → let after = with_run rights from to right in
+        IsChange (M.past memory.old) (M.past memory.new) (run_words right from to) 0 carry (IsCarry after) (IsSplitOf rights right) }
 {
     if is_whole(from, to) && right.is_some() {
         put_block(memory, place, right);

@@ -1,11 +1,12 @@
 // SPDX-License-Identifier: MIT OR Apache-2.0
 //! The tables in RAM, from a page of the layout's on: for each endpoint in order a page of level 1, one of level 2, and one
 //! of level 3 for each block of 2 MiB.
-ghost use Rattle.std.specs.Prelude.{◌≡◌, ℕ, ◌+◌, ◌*◌, ◌<◌, ◌≤◌, length, Option};
+ghost use Rattle.std.specs.Prelude.{◌≡◌, ℕ, ◌+◌, ◌-◌, ◌*◌, ◌/◌, ◌<◌, ◌≤◌, Bool, length, Option};
 ghost use Rattle.arrayvec.specs.ArrayVec.{array_vec_len};
 ghost use Rattle.ffa_model.specs.Descriptor.{page_word};
 ghost use Rattle.ffa_model.specs.declared.rights.Rights.{Rights};
 ghost use Rattle.ffa_physmem.specs.Moments.{Only};
+ghost use Rattle.ffa_physmem.specs.Work.{AddsAtMost};
 ghost use Rattle.ffa_stage2.specs.Mixed.{WalksMixed};
 ghost use Rattle.ffa_stage2.specs.Moments.{IsBetweenFor, WalksBetween};
 ghost use Rattle.ffa_stage2.specs.Rest.{AllSettled, RestIn};
@@ -13,6 +14,7 @@ ghost use Rattle.ffa_stage2.specs.Layout.{layout_right, IsBuiltFor, BlocksWhereO
 ghost use Rattle.ffa_stage2.specs.Tables.{IsSameIn, with_pages, with_right, WalkChanges, WalksChange, KeepsOthers, TableLaws};
 ghost use Rattle.ffa_stage2.specs.Orders.{IsOrdered};
 ghost use Rattle.ffa_stage2.specs.Words.{linked, rights_until};
+ghost use Rattle.ffa_stage2.specs.Work.{AreSplits, IsCarryAt, IsChange, pages_work, touched_passing, words_written};
 
 use crate::blocks::{BlockPlace, change};
 use crate::layout::Layout;
@@ -71,6 +73,10 @@ pub fn set_page<M: PhysMem>(
     ensures blocks { (access : ℕ → ℕ → Option Rights)
         → IsBuiltFor layout.now (M.ram memory.old) access
         → BlocksWhereOneFor layout.now (M.ram memory.new) (with_right access index page.0 right) }
+    ensures few { (access : ℕ → ℕ → Option Rights) (split : ℕ → Bool)
+        → IsBuiltFor layout.now (M.ram memory.old) access
+        → AreSplits (access index) right page.0 (page.0 + 1) split
+        → AddsAtMost (M.past memory.old) (M.past memory.new) (pages_work split right page.0 (page.0 + 1)) }
 {
     set_pages(memory, layout, index, page, 1, right);
 }
@@ -122,6 +128,19 @@ pub fn set_pages<M: PhysMem>(
     ensures blocks { (access : ℕ → ℕ → Option Rights)
         → IsBuiltFor layout.now (M.ram memory.old) access
         → BlocksWhereOneFor layout.now (M.ram memory.new) (with_pages access index first.0 (first.0 + count) right) }
+
+    // The work is at most a word for each page, and what blocks take that are joined or split.
+    ensures few { (access : ℕ → ℕ → Option Rights) (split : ℕ → Bool)
+        → IsBuiltFor layout.now (M.ram memory.old) access
+        → AreSplits (access index) right first.0 (first.0 + count) split
+        → AddsAtMost (M.past memory.old) (M.past memory.new) (pages_work split right first.0 (first.0 + count)) }
+    ensures runs { (access : ℕ → ℕ → Option Rights) (split : ℕ → Bool) (carry : ℕ)
+        → IsBuiltFor layout.now (M.ram memory.old) access
+        → AreSplits (access index) right first.0 (first.0 + count) split
+        → IsCarryAt (access index) first.0 carry
+        → let end = first.0 + count in let after = with_pages access index first.0 end right in
+        IsChange (M.past memory.old) (M.past memory.new) (words_written right first.0 end) (end / 512 - first.0 / 512) carry
+        (IsCarryAt (after index) end) (λ n. n ≤ touched_passing split first.0 end) }
 {
     let end = first.0 + count;
     let mut next = first.0;

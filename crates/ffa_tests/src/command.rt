@@ -49,7 +49,7 @@ ffaplay record row.toml first.trace --words => one piece
 ffaplay record --tlb row.toml first.trace => a TLB
 ffaplay record row.toml - --verbose --frames => frames
 ffaplay record row.toml --ffa 1.2 first.trace --tlb => a TLB
-ffaplay picture a b --processors 4 --page => one piece
+ffaplay record a b --processors 4 => one piece
 ";
 
 #[test]

@@ -1,32 +1,32 @@
 // SPDX-License-Identifier: MIT OR Apache-2.0
-//! Which entry makes room for a new one.
+//! The policy that picks the entry which makes room for a new one.
 ghost use Rattle.std.specs.Prelude.{◌≡◌, ℕ, ◌+◌, ◌%◌, ◌^◌};
 
 use ffa_model::{EndpointId, PageNo};
 
-/// Picks the slot that a new entry takes.
+/// A policy that picks the slot for a new entry.
 pub trait Replacement {
     /// The number that a policy picks for a page of an endpoint.
     ghost picked: { Self → ℕ → ℕ → ℕ };
 
-    /// The policy after that pick.
+    /// The policy after it picked a number for a page of an endpoint.
     ghost moved: { Self → ℕ → ℕ → Self };
 
-    /// The slot for a page of an endpoint, counted from 0. Any number may be picked: it is taken modulo the number of
-    /// slots.
+    /// Returns the slot for a page of an endpoint, counted from 0. The policy may pick any number, because the cache
+    /// takes it modulo the number of slots.
     fn pick(&mut self, endpoint: EndpointId, page: PageNo) -> usize
         ensures picked { result ≡ picked self.old endpoint.0 page.0 }
         ensures moved { self.new ≡ moved self.old endpoint.0 page.0 };
 }
 
-/// Picks the slots in turn: 0, 1, 2 and so on.
+/// A policy that picks the slots in turn: 0, 1, 2 and so on.
 #[derive(Clone, Copy)]
 pub struct InTurn {
     next: usize,
 }
 
 impl Default for InTurn {
-    /// Begins at slot 0.
+    /// Returns the policy that begins at slot 0.
     fn default() -> InTurn
         ensures { result.next ≡ 0 }
     {

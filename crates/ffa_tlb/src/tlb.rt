@@ -9,9 +9,9 @@ use crate::translations::{Entry, Translations};
 use ffa_model::{EndpointId, Leaf, PageNo};
 use std::marker::Model;
 
-/// A translation lookaside buffer of `N` entries, at least one (DDI 0487, D8). A page of an endpoint has one entry at
-/// most; which one makes room for a new one is up to `P`. Contracts see its slots, each empty or with its entry, and its
-/// policy.
+/// A translation lookaside buffer of `N` entries, at least one (DDI 0487, D8). A page of an endpoint has at most one
+/// entry. The policy `P` picks the entry that makes room for a new one. Contracts see the buffer's slots, each empty or
+/// with its entry, and its policy.
 #[derive(Drop)]
 pub struct Tlb<P: Replacement, const N: usize> {
     slots: [Option<Entry>; N],
@@ -33,7 +33,7 @@ impl<P: Replacement, const N: usize> Model for Tlb<P, N> {
 }
 
 impl<P: Replacement, const N: usize> Tlb<P, N> {
-    /// Holds nothing.
+    /// Returns a buffer that holds nothing.
     #[tactic(auto, using(crate::proofs::Slots::entries_of_empty))]
     pub fn new(policy: P) -> Tlb<P, N>
         requires { 0 < N }
@@ -59,7 +59,8 @@ impl<P: Replacement, const N: usize> Translations for Tlb<P, N> {
         ensures filled { IsFilled (entries_of self.old.slots) (entries_of self.new.slots) endpoint.0 page.0 leaf }
         ensures held { lookup (entries_of self.new.slots) endpoint.0 page.0 ≡ Some leaf }
 
-        // The new entry stands where the policy says. Each other slot is as before, but that the page's last entry is out.
+        // The new entry is in the slot that the policy picks. Each other slot is as before, except that the page's
+        // earlier entry is removed.
         ensures slots { let place = P.picked self.old.policy endpoint.0 page.0 % N in
             self.new.slots ≡ slice_set (without self.old.slots endpoint.0 page.0) place
             (Some (record { endpoint = endpoint; page = page; leaf = leaf })) }
@@ -94,7 +95,7 @@ impl<P: Replacement, const N: usize> Translations for Tlb<P, N> {
     }
 }
 
-// The leaf in the first of these slots that holds one for a page of an endpoint.
+// Returns the leaf in the first of these slots that has an entry for a page of an endpoint.
 fn find_leaf(slots: &[Option<Entry>], endpoint: EndpointId, page: PageNo) -> Option<Leaf>
     ensures { result ≡ lookup (entries_of slots.now) endpoint.0 page.0 }
 {

@@ -6,6 +6,7 @@ ghost use Rattle.ffa_model.specs.Memory.{size_of};
 ghost use Rattle.ffa_model.specs.Walk as walk;
 ghost use Rattle.ffa_model.specs.Reach as spec;
 ghost use Rattle.ffa_physmem.specs.Moments.{IsWriting, Only};
+ghost use Rattle.ffa_physmem.specs.Work.{AddsAtMost, loans_of};
 ghost use Rattle.ffa_walker.specs.Need.{needs};
 ghost use Rattle.ffa_walker.specs.Offset.{KeepsOffset};
 
@@ -14,7 +15,7 @@ use byteorder::{ByteOrder, LittleEndian};
 use ffa_model::{FaultKind, Leaf, PageNo, Size};
 use ffa_physmem::{PAGE_SIZE, PhysMem};
 
-// What an access needs of the leaf.
+// The right that an access needs of the leaf.
 #[derive(Clone, Copy)]
 enum Need {
     Read,
@@ -23,7 +24,7 @@ enum Need {
 }
 
 impl Need {
-    // Whether the leaf gives it.
+    // Whether the leaf gives this right.
     fn is_given_by(self, leaf: &Leaf) -> bool
         ensures { result ≡ needs self leaf.now }
     {
@@ -47,7 +48,8 @@ fn is_aligned(address: u64, size: Size) -> bool
     }
 }
 
-// The physical address where an access ends, in one page with the bytes after it, by what a walk answered.
+// Returns the physical address at which an access ends, by the answer of a walk. The bytes after it are in the same
+// page.
 #[inline(always)]
 #[tactic(auto, unfolding(ffa_model::specs::Reach::reach_by))]
 fn reach<M: PhysMem>(
@@ -75,7 +77,7 @@ fn reach<M: PhysMem>(
     Ok(leaf.phys)
 }
 
-// The number in the bytes at a physical address, the lowest first.
+// Returns the number in the bytes at a physical address, the lowest first.
 fn read_number<M: PhysMem>(memory: &M, physical: u64, size: Size) -> u64
     requires inside { IsTrue (walk.is_in_ram (M.ram memory.now) physical) }
     requires aligned { physical % size_of size ≡ 0 }
@@ -101,6 +103,7 @@ fn write_number<M: PhysMem>(memory: &mut M, physical: u64, size: Size, value: u6
         M.ram memory.new ≡ spec.with_bytes_at (M.ram memory.old) physical bytes }
     ensures steps { let page = spec.page_index (M.ram memory.old) physical in
         Only (M.past memory.old) (M.past memory.new) (λ _ s. IsWriting (M.ram memory.old) (λ p. p == page) s) }
+    ensures few { AddsAtMost (M.past memory.old) (M.past memory.new) (loans_of 1) }
 {
     let place = physical - u64::from(memory.base().0);
     let page = memory.page_mut(PageNo((place / PAGE_SIZE as u64) as u32));
@@ -113,9 +116,16 @@ fn write_number<M: PhysMem>(memory: &mut M, physical: u64, size: Size, value: u6
     }
 }
 
-/// Loads the number in the bytes at an address, the lowest first. The faults, in this order: `Alignment` where the
-/// address is no multiple of the size, then those of `translate`, `Permission` where the leaf may not be read, and
-/// `OutsideRam` where it leads out of the RAM.
+/// Loads the number in the bytes at an address, the lowest first.
+///
+/// # Errors
+///
+/// The first of these that applies.
+///
+/// - `Alignment`: the address is not a multiple of the size.
+/// - A fault of `translate`.
+/// - `Permission`: the leaf may not be read.
+/// - `OutsideRam`: the leaf leads out of RAM.
 pub fn load<M: PhysMem>(memory: &M, root: u32, address: u64, size: Size) -> Result<u64, FaultKind>
     requires root { walk.is_page_address (M.ram memory.now) root ≡ true }
     ensures loaded { result ≡ spec.loaded (M.ram memory.now) root address (size_of size) spec.may_load }
@@ -123,7 +133,7 @@ pub fn load<M: PhysMem>(memory: &M, root: u32, address: u64, size: Size) -> Resu
     load_at(memory, translate(memory, root, address), address, size)
 }
 
-/// Loads as `load` does, where a walk of the address answered this.
+/// Loads the number at an address as `load` does, by the answer of a walk of this address.
 #[inline(always)]
 pub fn load_at<M: PhysMem>(
     memory: &M,
@@ -138,8 +148,11 @@ pub fn load_at<M: PhysMem>(
     Ok(read_number(memory, physical, size))
 }
 
-/// Fetches the instruction at an address: 4 bytes, the lowest first. The faults are those of `load`, with `Permission`
-/// where the leaf may not be executed.
+/// Fetches the instruction at an address: 4 bytes, the lowest first.
+///
+/// # Errors
+///
+/// The faults of `load`, in the same order. `Permission` means that the leaf may not be executed.
 pub fn fetch<M: PhysMem>(memory: &M, root: u32, address: u64) -> Result<u32, FaultKind>
     requires root { walk.is_page_address (M.ram memory.now) root ≡ true }
     ensures fetched { result ≡ spec.loaded (M.ram memory.now) root address 4 spec.may_execute }
@@ -147,7 +160,7 @@ pub fn fetch<M: PhysMem>(memory: &M, root: u32, address: u64) -> Result<u32, Fau
     fetch_at(memory, translate(memory, root, address), address)
 }
 
-/// Fetches as `fetch` does, where a walk of the address answered this.
+/// Fetches the instruction at an address as `fetch` does, by the answer of a walk of this address.
 pub fn fetch_at<M: PhysMem>(
     memory: &M,
     walked: Result<Leaf, FaultKind>,
@@ -160,8 +173,12 @@ pub fn fetch_at<M: PhysMem>(
     Ok(read_number(memory, physical, Size::B4) as u32)
 }
 
-/// Stores the lowest bytes of a value at an address, the lowest first, and changes no other byte. The faults are those
-/// of `load`, with `Permission` where the leaf may not be written; they change nothing.
+/// Stores the lowest bytes of a value at an address, the lowest first, and changes no other byte.
+///
+/// # Errors
+///
+/// The faults of `load`, in the same order. `Permission` means that the leaf may not be written. A fault changes
+/// nothing.
 pub fn store<M: PhysMem>(
     memory: &mut M,
     root: u32,
@@ -178,7 +195,7 @@ pub fn store<M: PhysMem>(
     store_at(memory, walked, address, size, value)
 }
 
-/// Stores as `store` does, where a walk of the address answered this.
+/// Stores a value at an address as `store` does, by the answer of a walk of this address.
 #[inline(always)]
 pub fn store_at<M: PhysMem>(
     memory: &mut M,
@@ -196,6 +213,7 @@ pub fn store_at<M: PhysMem>(
     ensures steps { Only (M.past memory.old) (M.past memory.new) (λ _ s. (physical : ℕ)
         × (spec.reach_by (M.ram memory.old) walked address (size_of size) spec.may_store_to ≡ Ok physical)
         × IsWriting (M.ram memory.old) (λ p. p == spec.page_index (M.ram memory.old) physical) s) }
+    ensures few { AddsAtMost (M.past memory.old) (M.past memory.new) (loans_of 1) }
 {
     let physical = reach(memory, walked, address, size, Need::Write)?;
     write_number(memory, physical, size, value);

@@ -1,6 +1,6 @@
 // SPDX-License-Identifier: MIT OR Apache-2.0
-//! Whether tables give what runs of pages say, whatever the bytes are. Where a word of level 1 or 2 maps nothing, or is a
-//! block, all its addresses are judged at once.
+//! The check that tables give what runs of pages say, whatever the bytes are. If a word of level 1 or 2 maps nothing,
+//! or is a block, the check judges all its addresses at once.
 ghost use Rattle.std.specs.Prelude.{◌≡◌, ◌≢◌, ℕ, ◌+◌, ◌-◌, ◌*◌, ◌/◌, ◌%◌, ◌^◌, ◌<◌, ◌≤◌, ◌↔◌, IsTrue, IfSome, IfNone, All, Option, Some, length, true};
 ghost use Rattle.ffa_model.specs.Certified.{IsCertified, access_in, are_in_order};
 ghost use Rattle.ffa_model.specs.Walk as walk;
@@ -13,9 +13,10 @@ use crate::translation::{read_entry, read_leaf, table_of};
 use ffa_model::{CertRun, Data, FaultKind, Leaf, Rights};
 use ffa_physmem::{Descriptor, Level, PAGE_SIZE, PhysMem};
 
-/// Whether the runs follow one another from RAM's first page to its last, none of them empty, and the walks from these
-/// level 1 tables give at every address below 2^32 exactly what the runs say: a leaf with that address and the right of
-/// the table's endpoint, and Translation where it has none and outside RAM.
+/// Whether the tables give exactly what the runs say. The runs must follow one another from RAM's first page to its
+/// last, and no run may be empty. Take a walk from one of these level 1 tables, at any address below 2^32. If the runs
+/// give the table's endpoint a right there, the walk must end in a leaf with that address and that right. If they give
+/// it no right, or if the address is outside RAM, the walk must end in `Translation`.
 #[tactic(auto, unfolding(ffa_model::specs::Walk::walk))]
 pub fn audit<M: PhysMem>(memory: &M, roots: &[u32], runs: &[CertRun]) -> bool
     requires few { length roots.now ≤ MOST_ENDPOINTS }
@@ -33,7 +34,7 @@ pub fn audit<M: PhysMem>(memory: &M, roots: &[u32], runs: &[CertRun]) -> bool
     true
 }
 
-// Whether the runs follow one another from the first page to the last, and none is empty.
+// Whether the runs follow one another from the first page to the last, and no run is empty.
 fn are_in_order(runs: &[CertRun], pages: u32) -> bool
     ensures { result ≡ are_in_order 0 pages runs.now }
 {
@@ -47,8 +48,8 @@ fn are_in_order(runs: &[CertRun], pages: u32) -> bool
     next == u64::from(pages)
 }
 
-// Whether the walks from a table of this level, which maps the addresses from `start` on, are those of the runs. A run that
-// ends before a word's pages is passed once, not again for each word.
+// Whether the walks from a table of this level give what the runs say. The table maps the addresses from `start` on. A
+// run that ends before a word's pages is passed once, not again for each word.
 #[cycle(gives)]
 fn gives_table<M: PhysMem>(
     memory: &M,
@@ -78,7 +79,8 @@ fn gives_table<M: PhysMem>(
     true
 }
 
-// The same of the walks from a word of such a table.
+// Whether the walks from a word of a table of this level give what the runs say. The word maps the addresses from
+// `start` on.
 #[cycle(gives)]
 fn gives_word<M: PhysMem>(
     memory: &M,
@@ -106,14 +108,15 @@ fn gives_word<M: PhysMem>(
     }
 }
 
-// How many addresses a word of a table of this level maps, which are 512 times as many as one of the next.
+// Returns the number of addresses that a word of a table of this level maps, which is 512 times the number for the next
+// level.
 fn size(level: Level) -> u64
     ensures { result ≡ 2 ^ shift level }
 {
     1 << (30 - 9 * level as u64)
 }
 
-// How many words the walks ask a table of this level for.
+// Returns the number of words of a table of this level that the walks read.
 fn words(level: Level) -> u64
     ensures { result ≡ 2 ^ index_bits level }
 {
@@ -123,7 +126,7 @@ fn words(level: Level) -> u64
     }
 }
 
-// The level of the table that a word of a table of this level names, if it names one.
+// Returns the level of the table that a word of a table of this level names, if it names a table.
 fn next_level(level: Level, word: Descriptor) -> Option<Level>
     ensures { result ≡ next_level level word.0 }
 {
@@ -134,7 +137,7 @@ fn next_level(level: Level, word: Descriptor) -> Option<Level>
     }
 }
 
-// What the walk to the first address of a word answers, where the word names no table.
+// Returns the answer of the walk to the first address of a word that names no table.
 fn first_answer(level: Level, word: Descriptor) -> Result<Leaf, FaultKind>
     ensures { result ≡ first_answer level word.0 }
 {
@@ -148,7 +151,8 @@ fn first_answer(level: Level, word: Descriptor) -> Result<Leaf, FaultKind>
     read_leaf(word, word.output(level))
 }
 
-// The access to an address that a walk's answer gives, if runs can say it: none, or the right of a leaf at the address.
+// Returns the access that a walk's answer gives to an address, if runs can say it: no access, or the right of a leaf at
+// the address.
 #[tactic(auto, unfolding(ffa_model::specs::Walk::mapped_answer))]
 fn access_by(answer: Result<Leaf, FaultKind>, address: u64) -> Option<Option<Rights>>
     ensures some { IfSome result (λ access. answer ≡ walk.mapped_answer access address) }
@@ -164,7 +168,7 @@ fn access_by(answer: Result<Leaf, FaultKind>, address: u64) -> Option<Option<Rig
     }
 }
 
-// The runs without the first of them, which end before this page.
+// Returns the runs without the first ones, which end before this page.
 fn runs_from(runs: &[CertRun], page: u64) -> &[CertRun]
     ensures { (place p : ℕ) → page ≤ p → access_in result.now place p ≡ access_in runs.now place p }
 {
@@ -177,7 +181,7 @@ fn runs_from(runs: &[CertRun], page: u64) -> &[CertRun]
     rest
 }
 
-// The number of the page at an address, from RAM's first on, or 0 where the address is below RAM.
+// Returns the number of the page at an address, counted from RAM's first page, or 0 if the address is below RAM.
 fn page_behind<M: PhysMem>(memory: &M, address: u64) -> u64
     ensures page { result ≡ (address - (M.ram memory.now).base) / 4096 }
     ensures base { (M.ram memory.now).base % 4096 ≡ 0 }
@@ -185,7 +189,7 @@ fn page_behind<M: PhysMem>(memory: &M, address: u64) -> u64
     address.saturating_sub(u64::from(memory.base().0)) / PAGE_SIZE as u64
 }
 
-// Whether the runs give an endpoint this access to all addresses of a word, of which those outside RAM have none.
+// Whether the runs give an endpoint this access to all addresses of a word. Addresses outside RAM have no access.
 fn have_access<M: PhysMem>(
     memory: &M,
     level: Level,
@@ -202,7 +206,7 @@ fn have_access<M: PhysMem>(
     let size = size(level);
     let first = page_behind(memory, start);
     let end = page_behind(memory, start + size).min(u64::from(memory.pages()));
-    // A part of the span is outside.
+    // A part of the span is outside RAM.
     if access.is_some() && end < first + size / PAGE_SIZE as u64 {
         return false;
     }

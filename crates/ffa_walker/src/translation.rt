@@ -1,5 +1,6 @@
 // SPDX-License-Identifier: MIT OR Apache-2.0
-//! The walk: one small function for each level. They are inlined, because a call for each access would take a tenth of it.
+//! The walk, with one small function for each level. The functions are inlined, because a call for each access would
+//! take a tenth of the access's time.
 ghost use Rattle.std.specs.Prelude.{◌≡◌, ◌*◌, ◌^◌, ◌<◌, if◌then◌else◌, IsTrue, IfOk, Ok, Err, true};
 ghost use Rattle.ffa_model.specs.Walk as walk;
 ghost use Rattle.ffa_model.specs.Bits.{bits};
@@ -9,7 +10,7 @@ ghost use Rattle.ffa_walker.specs.Offset.{KeepsOffset};
 use ffa_model::{FaultKind, Leaf, PageNo};
 use ffa_physmem::{Descriptor, Level, PAGE_SIZE, PhysMem};
 
-/// Whether a byte of the RAM stands at an address.
+/// Whether a byte of RAM is at this address.
 pub fn is_in_ram<M: PhysMem>(memory: &M, address: u64) -> bool
     ensures { result ≡ walk.is_in_ram (M.ram memory.now) address }
 {
@@ -17,7 +18,7 @@ pub fn is_in_ram<M: PhysMem>(memory: &M, address: u64) -> bool
     base <= address && address < base + PAGE_SIZE as u64 * u64::from(memory.pages())
 }
 
-// The descriptor at a place of the table at an address.
+// Returns the descriptor at a place of the table at an address.
 pub(crate) fn read_entry<M: PhysMem>(memory: &M, table: u64, index: u64) -> Descriptor
     requires table { IsTrue (walk.is_in_ram (M.ram memory.now) table) }
     requires index { index < 512 }
@@ -27,7 +28,7 @@ pub(crate) fn read_entry<M: PhysMem>(memory: &M, table: u64, index: u64) -> Desc
     Descriptor(memory.read_word(PageNo(page as u32), index as usize))
 }
 
-// The table that a descriptor names, which has to be a page of the RAM.
+// Returns the table that a descriptor names, or `OutsideRam` if this is not a page of RAM.
 pub(crate) fn table_of<M: PhysMem>(memory: &M, word: Descriptor) -> Result<u64, FaultKind>
     ensures value { let table = bits 47 12 word.0 * 2 ^ 12 in
         result ≡ (if walk.is_page_address (M.ram memory.now) table then Ok table else Err OutsideRam) }
@@ -40,7 +41,7 @@ pub(crate) fn table_of<M: PhysMem>(memory: &M, word: Descriptor) -> Result<u64, 
     Ok(table)
 }
 
-// What the descriptor of a block or a page says.
+// Reads the descriptor of a block or a page.
 #[tactic(auto, unfolding(ffa_model::specs::Walk::leaf_of))]
 pub(crate) fn read_leaf(word: Descriptor, phys: u64) -> Result<Leaf, FaultKind>
     ensures { result ≡ walk.leaf_of word.0 phys }
@@ -57,7 +58,7 @@ pub(crate) fn read_leaf(word: Descriptor, phys: u64) -> Result<Leaf, FaultKind>
     })
 }
 
-// The walk from a word of level 3, where type 01 is invalid.
+// Walks from a word of level 3, where type 01 is invalid.
 #[inline(always)]
 #[tactic(auto, unfolding(ffa_model::specs::Walk::from_level3))]
 fn walk_from_level3(word: Descriptor, address: u64) -> Result<Leaf, FaultKind>
@@ -69,7 +70,7 @@ fn walk_from_level3(word: Descriptor, address: u64) -> Result<Leaf, FaultKind>
     read_leaf(word, word.output(Level::Three) + address % (1 << 12))
 }
 
-// The walk from a word of level 2: a block of 2 MiB, or a table of level 3.
+// Walks from a word of level 2, which is a block of 2 MiB or names a table of level 3.
 #[inline(always)]
 #[tactic(auto, unfolding(ffa_model::specs::Walk::from_level2))]
 fn walk_from_level2<M: PhysMem>(
@@ -89,7 +90,7 @@ fn walk_from_level2<M: PhysMem>(
     walk_from_level3(read_entry(memory, table, (address >> 12) % 512), address)
 }
 
-// The walk from a word of level 1: a block of 1 GiB, or a table of level 2.
+// Walks from a word of level 1, which is a block of 1 GiB or names a table of level 2.
 #[inline(always)]
 #[tactic(auto, unfolding(ffa_model::specs::Walk::from_level1))]
 fn walk_from_level1<M: PhysMem>(
@@ -113,9 +114,14 @@ fn walk_from_level1<M: PhysMem>(
     )
 }
 
-/// Walks the tables whose level 1 page stands at `root`. An address of 2^32 or more is `Translation`, as is an
-/// invalid descriptor; a table that is no page of the RAM is `OutsideRam`, and a leaf whose access flag is 0
-/// `AccessFlag` (DDI 0487, D8.3). The leaf's physical address need not be in RAM.
+/// Walks the tables whose level 1 page is at `root` (DDI 0487, D8.3). Returns the leaf, whose physical address need not
+/// be in RAM.
+///
+/// # Errors
+///
+/// - `Translation`: the address is 2^32 or more, or a descriptor is invalid.
+/// - `OutsideRam`: a table is not a page of RAM.
+/// - `AccessFlag`: the access flag of the leaf is 0.
 #[inline(always)]
 #[tactic(auto, unfolding(ffa_model::specs::Walk::walk))]
 pub fn translate<M: PhysMem>(memory: &M, root: u32, address: u64) -> Result<Leaf, FaultKind>

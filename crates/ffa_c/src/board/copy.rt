@@ -1,5 +1,5 @@
 // SPDX-License-Identifier: MIT OR Apache-2.0
-//! The same machine once more, in RAM of either kind, whichever its own is.
+//! Copies of a machine, in RAM of either kind, whichever RAM the machine has.
 ghost use Rattle.std.specs.Prelude.{◌≡◌, ◌*◌, true, false, length};
 ghost use Rattle.ffa_lent.specs.LentRam.{ram_of};
 ghost use Rattle.ffa_physmem.specs.Moments.{HasNoCopies};
@@ -16,7 +16,7 @@ use ffa_tlb::NoTlb;
 use std::alloc::Global;
 
 impl Board {
-    /// The same machine in this RAM of the heap and in this room.
+    /// Copies the machine to this RAM from the heap and to this room.
     pub fn copy_to_heap(&self, ram: FlatRam, storage: Storage<Given<Global>>) -> Board
         requires storage { IsRoomToCopy self.now.machine storage }
         requires ram { IsRamToCopy self.now.machine (⟦<FlatRam as PhysMem>⟧.ram ram) }
@@ -28,7 +28,7 @@ impl Board {
         Board { kind }
     }
 
-    /// The same machine in this RAM that is lent and in this room.
+    /// Copies the machine to this lent RAM and to this room. Each page stays where it was lent.
     pub fn copy_to_lent(&self, ram: LentRam, storage: Storage<Given<Global>>) -> Board
         requires storage { IsRoomToCopy self.now.machine storage }
         requires ram { IsRamToCopy self.now.machine (ram_of ram) }
@@ -42,7 +42,7 @@ impl Board {
         Board { kind }
     }
 
-    /// The manifest, for which room and RAM for a copy are taken as for a boot.
+    /// Returns the machine's manifest, from which a copy takes its room and its RAM as a boot does.
     pub fn manifest(&self) -> &Manifest
         ensures base { result.now.ram_base.0 ≡ self.now.machine.ram.base }
         ensures pages { 512 * result.now.ram_blocks ≡ length self.now.machine.ram.pages }

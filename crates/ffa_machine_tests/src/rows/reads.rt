@@ -65,7 +65,8 @@ impl Noting {
 
 impl PhysMem for Noting {
     ghost use Rattle.std.specs.Prelude.{refl};
-    ghost use Rattle.ffa_physmem.specs.Unrecorded.{no_site, no_steps, no_turn, unrecorded};
+    ghost use Rattle.ffa_physmem.specs.Unrecorded.{no_site, no_spending, no_steps, no_turn, unrecorded};
+    ghost use Rattle.ffa_physmem.specs.Work.{loans_of};
 
     ghost ram = { λ m. ⟦<FlatRam as PhysMem>⟧.ram m.ram };
 
@@ -81,6 +82,8 @@ impl PhysMem for Noting {
     ghost one_page = { λ m page bytes. refl };
 
     ghost in_loan = { λ _ _ _. no_steps refl };
+
+    ghost one_loan = { λ _ _ _. no_spending no_site (loans_of 1) };
 
     ghost in_turn = { λ _. no_turn _ no_site };
 

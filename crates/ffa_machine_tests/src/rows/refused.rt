@@ -240,8 +240,8 @@ fn room_comes_whole_or_not(rt: HostRuntime) -> Result<(), Fail> {
             came = u64::saturating_add(came, 1);
         }
     }
-    // Four bytes for each of 512 pages, and 128 slots of 624 bytes, are 80 KiB: from there on there is room.
-    same(&rt, came, 49);
+    // Four bytes for each of 512 pages, and 128 slots of 616 bytes, are 79 KiB: from there on there is room.
+    same(&rt, came, 50);
     Ok(())
 }
 

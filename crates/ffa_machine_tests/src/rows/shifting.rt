@@ -88,7 +88,8 @@ impl Shifting {
 
 impl PhysMem for Shifting {
     ghost use Rattle.std.specs.Prelude.{refl};
-    ghost use Rattle.ffa_physmem.specs.Unrecorded.{no_site, no_steps, no_turn, unrecorded};
+    ghost use Rattle.ffa_physmem.specs.Unrecorded.{no_site, no_spending, no_steps, no_turn, unrecorded};
+    ghost use Rattle.ffa_physmem.specs.Work.{loans_of};
 
     ghost ram = { λ m. ⟦<FlatRam as PhysMem>⟧.ram m.ram };
 
@@ -104,6 +105,8 @@ impl PhysMem for Shifting {
     ghost one_page = { λ m page bytes. refl };
 
     ghost in_loan = { λ _ _ _. no_steps refl };
+
+    ghost one_loan = { λ _ _ _. no_spending no_site (loans_of 1) };
 
     ghost in_turn = { λ _. no_turn _ no_site };
 

@@ -68,6 +68,7 @@ impl<O: Room<OpenSlot> + Drop> Pool<O> {
     }
 
     // Whether an endpoint may take what the descriptor in its TX asks for.
+    #[inline(always)]
     pub(crate) fn check_asked<M: PhysMem, P: Room<KeptPage> + Drop>(
         &self,
         pages: &PageTable<P>,

@@ -1,7 +1,7 @@
 // SPDX-License-Identifier: MIT OR Apache-2.0
 //! The checks of FFA_MEM_DONATE, FFA_MEM_LEND and FFA_MEM_SHARE: whether an endpoint may send what it offers.
 ghost use Rattle.ffa_model.specs.Buffers.{is_own};
-ghost use Rattle.std.specs.Prelude.{◌≡◌, ◌<◌, ◌++◌, ℕ, length, false, Some, [], OnOk, IfOk, ◌||◌};
+ghost use Rattle.std.specs.Prelude.{◌≡◌, ◌<◌, ◌++◌, ℕ, length, false, List, Option, Some, [], OnOk, IfOk, ◌||◌, ◌&&◌};
 ghost use Rattle.std.specs.List.{list_all};
 ghost use Rattle.std.specs.Result.{result_err};
 ghost use Rattle.arrayvec.specs.ArrayVec.{array_vec_len};
@@ -13,7 +13,9 @@ ghost use Rattle.ffa_model.specs.Identifiers.{identifier, place};
 ghost use Rattle.ffa_model.specs.MemorySend.{are_known, is_inside, is_sendable, record_guards, room_guards, send_guards, world_guards};
 ghost use Rattle.ffa_model.specs.declared.manifest.Ffa.{Ffa};
 ghost use Rattle.ffa_model.specs.SendDescriptor.{is_named, send_of, send_record};
-ghost use Rattle.ffa_model.specs.Transactions.{next_handle, sends_of};
+ghost use Rattle.ffa_model.specs.Rights.{may_store};
+ghost use Rattle.ffa_model.specs.Transactions.{are_writable, next_handle, sends_of};
+ghost use Rattle.ffa_pages.specs.Entry.{Entry, own_right_at};
 ghost use Rattle.ffa_rxtx.specs.Parts.{ownership_in};
 ghost use Rattle.ffa_stage2.specs.Layout.{normal_in};
 ghost use Rattle.ffa_memshare.specs.Callers.{IsCaller};
@@ -26,7 +28,7 @@ ghost use Rattle.ffa_memshare.specs.SlotChanges.{IsFree};
 ghost use Rattle.ffa_memshare.specs.Stored.{open_in, view_of};
 
 use super::worlds::check_worlds;
-use crate::common::common_of;
+use crate::common::Common;
 use crate::descriptor_call::DescriptorCall;
 use crate::draft::Draft;
 use crate::grants::first_page;
@@ -175,48 +177,82 @@ pub(crate) fn is_own<P: Room<KeptPage> + Drop>(
         && pages.slot_of(page).is_none()
 }
 
-// Whether an endpoint may send the pages of a range.
-fn is_range_sendable<P: Room<KeptPage> + Drop>(
+// What a send asks of pages: whether their endpoint may send all, and whether it may write to all itself.
+#[derive(Clone, Copy)]
+struct Looked {
+    is_sendable: bool,
+    is_writable: bool,
+}
+
+impl Looked {
+    // What both these pages and others are.
+    fn and(self, other: Looked) -> Looked
+        ensures sendable { result.is_sendable ≡ (self.is_sendable && other.is_sendable) }
+        ensures writable { result.is_writable ≡ (self.is_writable && other.is_writable) }
+    {
+        Looked {
+            is_sendable: self.is_sendable && other.is_sendable,
+            is_writable: self.is_writable && other.is_writable,
+        }
+    }
+}
+
+// Whether an endpoint may send the pages of a range, and write to them. Each page is looked at once.
+fn look_at_range<P: Room<KeptPage> + Drop>(
     pages: &PageTable<P>,
     base: Address,
     buffers: &Buffers,
     sender: EndpointId,
     range: &Range,
-) -> bool
+) -> Looked
     requires { IsPlaced base.0 (length pages.now) range.now }
-    ensures { let is_its = is_sendable sender.0 (ownership_in pages.now base.0) buffers.now in
-        result ≡ all_named (length pages.now) (in_range base.0 range.now) is_its }
+    ensures sendable { let is_its = is_sendable sender.0 (ownership_in pages.now base.0) buffers.now in
+        result.is_sendable ≡ all_named (length pages.now) (in_range base.0 range.now) is_its }
+    ensures writable { let may_write = λ (p : ℕ). may_store (own_right_at pages.now p) in
+        result.is_writable ≡ all_named (length pages.now) (in_range base.0 range.now) may_write }
 {
     // Proof step: the number of pages is 2^14 at most.
     let _ = pages.pages();
     let mut next = first_page(base, range);
     let end = next + range.pages;
     let mut all = !buffers.is_any_buffer(PageNo(next), end);
+    let mut common = Common {
+        is_writable: true,
+        is_executable: true,
+    };
     while next < end {
         all &= is_own(pages, sender, PageNo(next));
+        common = common.and(pages.own_right_of(PageNo(next)));
         next = pages.alike_until(PageNo(next), end);
     }
-    all
+    Looked {
+        is_sendable: all,
+        is_writable: common.is_writable,
+    }
 }
 
-// Whether an endpoint may send the pages of these ranges.
+// Whether an endpoint may send the pages of these ranges, and write to them.
 // Owner, open transaction and buffer are one check with one name. Three names would need three passes over the pages.
-fn are_sendable<P: Room<KeptPage> + Drop>(
+fn look_at<P: Room<KeptPage> + Drop>(
     pages: &PageTable<P>,
     base: Address,
     buffers: &Buffers,
     sender: EndpointId,
     ranges: &PageRanges,
-) -> bool
+) -> Looked
     requires { ArePlaced base.0 (length pages.now) ranges.now }
-    ensures { let is_its = is_sendable sender.0 (ownership_in pages.now base.0) buffers.now in
-        result ≡ all_named (length pages.now) (in_ranges base.0 ranges.now) is_its }
+    ensures sendable { let is_its = is_sendable sender.0 (ownership_in pages.now base.0) buffers.now in
+        result.is_sendable ≡ all_named (length pages.now) (in_ranges base.0 ranges.now) is_its }
+    ensures writable { result.is_writable ≡ are_writable (ownership_in pages.now base.0) ranges.now }
 {
-    let mut all = true;
+    let mut looked = Looked {
+        is_sendable: true,
+        is_writable: true,
+    };
     for place in 0..ranges.len() {
-        all &= is_range_sendable(pages, base, buffers, sender, &ranges.at(place));
+        looked = looked.and(look_at_range(pages, base, buffers, sender, &ranges.at(place)));
     }
-    all
+    looked
 }
 
 // Whether somebody is granted rw.
@@ -235,24 +271,18 @@ fn asks_for_writes(offer: &SendDesc) -> bool
     offer.zero || grants_writes(offer.receivers.as_slice())
 }
 
-// Whether the pages that are offered, which are those of these ranges, have rw themselves, where that is
-// asked for, or what it is asked for. These are two checks in one pass, since both ask for rw of all pages:
-// where a page lacks it, the first of them fails exactly if somebody is granted rw.
-fn check_writes<P: Room<KeptPage> + Drop>(
-    offer: &SendDesc,
-    ranges: &PageRanges,
-    pages: &PageTable<P>,
-    base: Address,
-) -> Result<(), Refusal>
-    requires ranges { ranges.now ≡ offer.now.ranges.items }
-    requires own { (e : ℕ) × IsOwnOffer pages.now base.0 e (send_record offer.now) }
-    ensures { let owners = ownership_in pages.now base.0 in
-        result_err result ≡ first_refusal (write_guards owners (send_record offer.now)) }
+// Whether the pages that are offered have rw themselves, where that is asked for, or what it is asked for.
+// These are two checks in one, since both ask for rw of all pages: where a page lacks it, the first of them fails exactly if
+// somebody is granted rw.
+fn check_writes(offer: &SendDesc, is_writable: bool) -> Result<(), Refusal>
+    ensures { (table : List (Option Entry)) (base e : ℕ) → IsOwnOffer table base e (send_record offer.now)
+        → is_writable ≡ are_writable (ownership_in table base) offer.now.ranges.items
+        → result_err result ≡ first_refusal (write_guards (ownership_in table base) (send_record offer.now)) }
 {
     if !asks_for_writes(offer) {
         return Ok(());
     }
-    if common_of(pages, base, ranges).is_writable {
+    if is_writable {
         return Ok(());
     }
     if grants_writes(offer.receivers.as_slice()) {
@@ -288,9 +318,10 @@ fn check_offer<P: Room<KeptPage> + Drop>(
         return Err(Refusal::RangeOutside);
     }
     ranges.place(pages, layout.base, &offer.ranges);
-    if !are_sendable(pages, layout.base, buffers, caller, ranges) {
+    let looked = look_at(pages, layout.base, buffers, caller, ranges);
+    if !looked.is_sendable {
         return Err(Refusal::PageUnsendable);
     }
-    check_writes(offer, ranges, pages, layout.base)?;
+    check_writes(offer, looked.is_writable)?;
     Ok(())
 }

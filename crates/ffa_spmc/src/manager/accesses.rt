@@ -8,6 +8,7 @@ ghost use Rattle.ffa_model.specs.Refusals.{is_refusal};
 ghost use Rattle.ffa_spmc.specs.Moments.{AreMoments};
 ghost use Rattle.ffa_spmc.specs.Unowned.{KeepsUnowned};
 ghost use Rattle.ffa_spmc.specs.Walks.{walk_of};
+ghost use Rattle.ffa_physmem.specs.Work.{AddsAtMost, loans_of};
 
 use super::Manager;
 use crate::storage::Store;
@@ -73,6 +74,7 @@ impl<M: PhysMem + Drop, S: Store> Manager<M, S> {
         ensures refused { is_refusal result ≡ true → self.new ≡ self.old }
         ensures unowned { KeepsUnowned self.old.state self.old.ram self.new.ram }
         ensures moments { AreMoments self.old.state self.old.ram self.new.ram self.old.past self.new.past }
+        ensures few { AddsAtMost self.old.past self.new.past (loans_of 1) }
     {
         match ffa_walker::store_at(&mut self.ram, walked, addr, size, value) {
             Ok(()) => Outcome::Done,

@@ -9,6 +9,7 @@ ghost use Rattle.ffa_model.specs.Setup.{info_get, info_guards, told_info_size, i
 ghost use Rattle.ffa_spmc.specs.Served.{IsReplied};
 ghost use Rattle.ffa_spmc.specs.Moments.{AreMoments};
 ghost use Rattle.ffa_spmc.specs.Unowned.{KeepsUnowned};
+ghost use Rattle.ffa_physmem.specs.Work.{AddsAtMost, loans_of, no_work};
 
 use super::Manager;
 use crate::replies::done_or_error;
@@ -26,7 +27,7 @@ fn is_count_alone(flags: u32) -> bool
 impl<M: PhysMem + Drop, S: Store> Manager<M, S> {
     // FFA_RX_RELEASE of the runner.
     pub(super) fn rx_release(&mut self) -> Reply
-        ensures { IsReplied self.old self.new (rx_release self.old.state) result }
+        ensures { IsReplied self.old self.new (rx_release self.old.state) no_work result }
     {
         let runner = self.kept.chain.runner();
         done_or_error(self.kept.buffers.rx_release(runner))
@@ -34,7 +35,7 @@ impl<M: PhysMem + Drop, S: Store> Manager<M, S> {
 
     // FFA_RXTX_MAP of the runner.
     pub(super) fn rxtx_map(&mut self, tx: u64, rx: u64, pages: u32) -> Reply
-        ensures { IsReplied self.old self.new (rxtx_map self.old.state tx rx pages) result }
+        ensures { IsReplied self.old self.new (rxtx_map self.old.state tx rx pages) no_work result }
     {
         let runner = self.kept.chain.runner();
         let ram_base = self.kept.manifest.ram_base;
@@ -48,7 +49,7 @@ impl<M: PhysMem + Drop, S: Store> Manager<M, S> {
 
     // FFA_RXTX_UNMAP of the runner.
     pub(super) fn rxtx_unmap(&mut self, endpoint: u32) -> Reply
-        ensures { IsReplied self.old self.new (rxtx_unmap self.old.state endpoint) result }
+        ensures { IsReplied self.old self.new (rxtx_unmap self.old.state endpoint) no_work result }
     {
         let runner = self.kept.chain.runner();
         done_or_error(self.kept.buffers.unmap(runner, endpoint))
@@ -56,7 +57,7 @@ impl<M: PhysMem + Drop, S: Store> Manager<M, S> {
 
     // FFA_PARTITION_INFO_GET of the runner.
     pub(super) fn partition_info_get(&mut self, uuid: [u32; 4], flags: u32) -> Reply
-        ensures { IsReplied self.old self.new (info_get self.old.state uuid flags) result }
+        ensures { IsReplied self.old self.new (info_get self.old.state uuid flags) (loans_of 1) result }
     {
         match self.check_info(uuid, flags) {
             Ok(()) => self.inform(uuid, flags),
@@ -90,6 +91,7 @@ impl<M: PhysMem + Drop, S: Store> Manager<M, S> {
         ensures state { self.new.state ≡ informed self.old.state (uuid_bytes uuid) flags }
         ensures unowned { KeepsUnowned self.old.state self.old.ram self.new.ram }
         ensures moments { AreMoments self.old.state self.old.ram self.new.ram self.old.past self.new.past }
+        ensures few { AddsAtMost self.old.past self.new.past (loans_of 1) }
         ensures reply { result ≡ success (length (selected self.old.state.parties (uuid_bytes uuid)))
             (if is_count_alone flags then 0 else told_info_size (version_of self.old.state self.old.state.runner)) }
     {

@@ -4,12 +4,15 @@
 ghost use Rattle.std.specs.Prelude.{◌≡◌, false, true};
 ghost use Rattle.std.specs.Option.{option_or};
 ghost use Rattle.ffa_model.specs.HypervisorRetrieve.{asks_back, hypervisor_retrieve, memory_retrieve};
-ghost use Rattle.ffa_model.specs.MemoryRetrieve.{receiver_retrieve};
-ghost use Rattle.ffa_model.specs.MemoryReturn.{memory_reclaim, memory_relinquish};
-ghost use Rattle.ffa_model.specs.MemorySend.{memory_send};
+ghost use Rattle.ffa_model.specs.MemoryRetrieve.{receiver_retrieve, retrieve_read};
+ghost use Rattle.ffa_model.specs.MemoryReturn.{memory_reclaim, memory_relinquish, relinquish_read};
+ghost use Rattle.ffa_model.specs.MemorySend.{memory_send, send_read};
 ghost use Rattle.ffa_spmc.specs.Replies.{change_told};
 ghost use Rattle.ffa_model.specs.State.{version_of};
 ghost use Rattle.ffa_spmc.specs.Served.{IsAnswered, IsReplied, IsTold};
+ghost use Rattle.ffa_physmem.specs.Work.{loans_of};
+ghost use Rattle.ffa_spmc.specs.Work.{call_work, relinquish_work, retrieve_work, send_work};
+ghost use Rattle.ffa_model.specs.declared.call.Call.TheVariants.{MemReclaim, MemRetrieve};
 
 use super::Manager;
 use super::forgetting::conclude;
@@ -31,7 +34,8 @@ impl<M: PhysMem + Drop, S: Store> Manager<M, S> {
     ) -> Reply
         ensures { let held = T.entries cache.old in let kept = T.entries cache.new in
             let call = memory_send self.old.state kind transfer in
-            IsAnswered self.old self.new held kept news.old news.new true call result }
+            let most = send_work self.old.state kind (send_read self.old.state kind transfer.total) in
+            IsAnswered self.old self.new held kept news.old news.new true call most result }
     {
         let base = self.ram_base();
         let done = self.pool_send(kind, transfer, news);
@@ -46,7 +50,8 @@ impl<M: PhysMem + Drop, S: Store> Manager<M, S> {
         transfer: Transfer,
         news: &mut News,
     ) -> Result<Value, ErrorCode>
-        ensures done { IsTold self.old self.new (memory_send self.old.state kind transfer) result news.new }
+        ensures done { let most = send_work self.old.state kind (send_read self.old.state kind transfer.total) in
+            IsTold self.old self.new (memory_send self.old.state kind transfer) most result news.new }
         ensures told { news.new ≡ option_or (change_told result news.new) news.old }
     {
         let ffa = self.kept.manifest.ffa;
@@ -80,8 +85,8 @@ impl<M: PhysMem + Drop, S: Store> Manager<M, S> {
         news: &mut News,
     ) -> Reply
         ensures { let held = T.entries cache.old in let kept = T.entries cache.new in
-            let call = memory_retrieve self.old.state transfer in
-            IsAnswered self.old self.new held kept news.old news.new true call result }
+            let call = memory_retrieve self.old.state transfer in let most = call_work self.old.state (MemRetrieve transfer) in
+            IsAnswered self.old self.new held kept news.old news.new true call most result }
     {
         if self.asks_back(transfer) {
             return self.read_back(transfer);
@@ -120,7 +125,7 @@ impl<M: PhysMem + Drop, S: Store> Manager<M, S> {
     #[inline(never)]
     fn read_back(&mut self, transfer: Transfer) -> Reply
         requires { asks_back self.old.state transfer ≡ true }
-        ensures { IsReplied self.old self.new (hypervisor_retrieve self.old.state transfer) result }
+        ensures { IsReplied self.old self.new (hypervisor_retrieve self.old.state transfer) (loans_of 1) result }
     {
         let call = self.descriptor_call(transfer);
         let runner = self.kept.chain.runner();
@@ -143,7 +148,8 @@ impl<M: PhysMem + Drop, S: Store> Manager<M, S> {
     #[inline(always)]
     fn pool_retrieve(&mut self, transfer: Transfer, news: &mut News) -> Result<Value, ErrorCode>
         requires { asks_back self.old.state transfer ≡ false }
-        ensures done { IsTold self.old self.new (receiver_retrieve self.old.state transfer) result news.new }
+        ensures done { let most = retrieve_work self.old.state (retrieve_read self.old.state transfer.total) in
+            IsTold self.old self.new (receiver_retrieve self.old.state transfer) most result news.new }
         ensures told { news.new ≡ option_or (change_told result news.new) news.old }
     {
         let ffa = self.kept.manifest.ffa;
@@ -176,7 +182,8 @@ impl<M: PhysMem + Drop, S: Store> Manager<M, S> {
     ) -> Reply
         ensures { let held = T.entries cache.old in let kept = T.entries cache.new in
             let call = memory_relinquish self.old.state in
-            IsAnswered self.old self.new held kept news.old news.new true call result }
+            let most = relinquish_work self.old.state (relinquish_read self.old.state) in
+            IsAnswered self.old self.new held kept news.old news.new true call most result }
     {
         let base = self.ram_base();
         let done = self.pool_relinquish(news);
@@ -186,7 +193,8 @@ impl<M: PhysMem + Drop, S: Store> Manager<M, S> {
     // The same, but the cache keeps what it had.
     #[inline(always)]
     fn pool_relinquish(&mut self, news: &mut News) -> Result<Value, ErrorCode>
-        ensures done { IsTold self.old self.new (memory_relinquish self.old.state) result news.new }
+        ensures done { let most = relinquish_work self.old.state (relinquish_read self.old.state) in
+            IsTold self.old self.new (memory_relinquish self.old.state) most result news.new }
         ensures told { news.new ≡ option_or (change_told result news.new) news.old }
     {
         let runner = self.kept.chain.runner();
@@ -213,7 +221,8 @@ impl<M: PhysMem + Drop, S: Store> Manager<M, S> {
     ) -> Reply
         ensures { let held = T.entries cache.old in let kept = T.entries cache.new in
             let call = memory_reclaim self.old.state handle.0 flags in
-            IsAnswered self.old self.new held kept news.old news.new true call result }
+            let most = call_work self.old.state (MemReclaim handle flags) in
+            IsAnswered self.old self.new held kept news.old news.new true call most result }
     {
         let base = self.ram_base();
         let done = self.pool_reclaim(handle, flags, news);
@@ -228,7 +237,8 @@ impl<M: PhysMem + Drop, S: Store> Manager<M, S> {
         flags: u32,
         news: &mut News,
     ) -> Result<Value, ErrorCode>
-        ensures done { IsTold self.old self.new (memory_reclaim self.old.state handle.0 flags) result news.new }
+        ensures done { let most = call_work self.old.state (MemReclaim handle flags) in
+            IsTold self.old self.new (memory_reclaim self.old.state handle.0 flags) most result news.new }
         ensures told { news.new ≡ option_or (change_told result news.new) news.old }
     {
         let runner = self.kept.chain.runner();

@@ -6,6 +6,8 @@ ghost use Rattle.ffa_model.specs.Messages.{msg_send2};
 ghost use Rattle.ffa_model.specs.RunStates.{direct_request, direct_response, keeps_rx, msg_wait, run_partition, yield_now};
 ghost use Rattle.ffa_model.specs.State.{version_of};
 ghost use Rattle.ffa_spmc.specs.Served.{IsReplied};
+ghost use Rattle.ffa_physmem.specs.Work.{loans_of, no_work};
+ghost use Rattle.ffa_spmc.specs.Work.{message_pages};
 
 use super::Manager;
 use crate::replies::{DONE, message_or_error, reply_or_error};
@@ -18,14 +20,14 @@ use ffa_schedule::keeps_rx;
 impl<M: PhysMem + Drop, S: Store> Manager<M, S> {
     // FFA_RUN of the runner.
     pub(super) fn run_partition(&mut self, target: EndpointId, context: u16) -> Reply
-        ensures { IsReplied self.old self.new (run_partition self.old.state target.0 context) result }
+        ensures { IsReplied self.old self.new (run_partition self.old.state target.0 context) no_work result }
     {
         reply_or_error(self.kept.chain.run_partition(target, context))
     }
 
     // FFA_MSG_WAIT of the runner, whose RX is empty then, unless the flags keep it as it is.
     pub(super) fn msg_wait(&mut self, flags: u32) -> Reply
-        ensures { IsReplied self.old self.new (msg_wait self.old.state flags) result }
+        ensures { IsReplied self.old self.new (msg_wait self.old.state flags) no_work result }
     {
         if keeps_rx(self.version(), flags) {
             self.wait_with_rx(flags)
@@ -37,7 +39,7 @@ impl<M: PhysMem + Drop, S: Store> Manager<M, S> {
     // The same, where the flags keep RX.
     fn wait_with_rx(&mut self, _flags: u32) -> Reply
         requires { keeps_rx (version_of self.old.state self.old.state.runner) _flags ≡ true }
-        ensures { IsReplied self.old self.new (msg_wait self.old.state _flags) result }
+        ensures { IsReplied self.old self.new (msg_wait self.old.state _flags) no_work result }
     {
         reply_or_error(self.kept.chain.wait())
     }
@@ -45,7 +47,7 @@ impl<M: PhysMem + Drop, S: Store> Manager<M, S> {
     // The same, where they don't.
     fn wait_without_rx(&mut self, _flags: u32) -> Reply
         requires { keeps_rx (version_of self.old.state self.old.state.runner) _flags ≡ false }
-        ensures { IsReplied self.old self.new (msg_wait self.old.state _flags) result }
+        ensures { IsReplied self.old self.new (msg_wait self.old.state _flags) no_work result }
     {
         let runner = self.kept.chain.runner();
         let result = self.kept.chain.wait();
@@ -57,7 +59,7 @@ impl<M: PhysMem + Drop, S: Store> Manager<M, S> {
 
     // FFA_YIELD of the runner.
     pub(super) fn yield_now(&mut self) -> Reply
-        ensures { IsReplied self.old self.new (yield_now self.old.state) result }
+        ensures { IsReplied self.old self.new (yield_now self.old.state) no_work result }
     {
         reply_or_error(self.kept.chain.yield_now())
     }
@@ -65,7 +67,7 @@ impl<M: PhysMem + Drop, S: Store> Manager<M, S> {
     // FFA_MSG_SEND_DIRECT_REQ of the runner.
     pub(super) fn direct_request(&mut self, message: &DirectMessage) -> Reply
         requires { (message.now.function == FFA_ERROR) ≡ false }
-        ensures { IsReplied self.old self.new (direct_request self.old.state message.now) result }
+        ensures { IsReplied self.old self.new (direct_request self.old.state message.now) no_work result }
     {
         let answer = direct_req(&mut self.kept.chain, &self.kept.manifest, message);
         message_or_error(message, answer)
@@ -74,14 +76,14 @@ impl<M: PhysMem + Drop, S: Store> Manager<M, S> {
     // FFA_MSG_SEND_DIRECT_RESP of the runner.
     pub(super) fn direct_response(&mut self, message: &DirectMessage) -> Reply
         requires { (message.now.function == FFA_ERROR) ≡ false }
-        ensures { IsReplied self.old self.new (direct_response self.old.state message.now) result }
+        ensures { IsReplied self.old self.new (direct_response self.old.state message.now) no_work result }
     {
         message_or_error(message, direct_resp(&mut self.kept.chain, message))
     }
 
     // FFA_MSG_SEND2 of the runner. The receiver is told of a message by a bit of the manager's.
     pub(super) fn msg_send2(&mut self) -> Reply
-        ensures { IsReplied self.old self.new (msg_send2 self.old.state) result }
+        ensures { IsReplied self.old self.new (msg_send2 self.old.state) (loans_of (message_pages self.old.state)) result }
     {
         let version = self.version();
         let runner = self.kept.chain.runner();

@@ -4,6 +4,7 @@ ghost use Rattle.std.specs.Prelude.{◌≡◌};
 ghost use Rattle.ffa_model.specs.Notifications.{bitmap_create, bitmap_destroy, has_pending, notifications_of, notification_bind, notification_get, notification_set, notification_unbind};
 ghost use Rattle.ffa_model.specs.Notices.{has_notices, notification_info_get};
 ghost use Rattle.ffa_spmc.specs.Served.{IsReplied};
+ghost use Rattle.ffa_physmem.specs.Work.{no_work};
 
 use super::Manager;
 use crate::replies::{done_or_error, reply_or_error};
@@ -30,7 +31,7 @@ impl<M: PhysMem + Drop, S: Store> Manager<M, S> {
 
     // FFA_NOTIFICATION_BITMAP_CREATE of the runner.
     pub(super) fn bitmap_create(&mut self, endpoint: u32, contexts: u32) -> Reply
-        ensures { IsReplied self.old self.new (bitmap_create self.old.state endpoint contexts) result }
+        ensures { IsReplied self.old self.new (bitmap_create self.old.state endpoint contexts) no_work result }
     {
         let ffa = self.kept.manifest.ffa;
         let runner = self.kept.chain.runner();
@@ -39,7 +40,7 @@ impl<M: PhysMem + Drop, S: Store> Manager<M, S> {
 
     // FFA_NOTIFICATION_BITMAP_DESTROY of the runner.
     pub(super) fn bitmap_destroy(&mut self, endpoint: u32) -> Reply
-        ensures { IsReplied self.old self.new (bitmap_destroy self.old.state endpoint) result }
+        ensures { IsReplied self.old self.new (bitmap_destroy self.old.state endpoint) no_work result }
     {
         let runner = self.kept.chain.runner();
         done_or_error(self.kept.bitmaps.destroy(runner, endpoint))
@@ -47,7 +48,7 @@ impl<M: PhysMem + Drop, S: Store> Manager<M, S> {
 
     // FFA_NOTIFICATION_BIND of the runner.
     pub(super) fn notification_bind(&mut self, bits: &NotificationBits) -> Reply
-        ensures { IsReplied self.old self.new (notification_bind self.old.state bits.now) result }
+        ensures { IsReplied self.old self.new (notification_bind self.old.state bits.now) no_work result }
     {
         let runner = self.kept.chain.runner();
         done_or_error(self.kept.bitmaps.bind(runner, bits))
@@ -55,7 +56,7 @@ impl<M: PhysMem + Drop, S: Store> Manager<M, S> {
 
     // FFA_NOTIFICATION_UNBIND of the runner.
     pub(super) fn notification_unbind(&mut self, bits: &NotificationBits) -> Reply
-        ensures { IsReplied self.old self.new (notification_unbind self.old.state bits.now) result }
+        ensures { IsReplied self.old self.new (notification_unbind self.old.state bits.now) no_work result }
     {
         let runner = self.kept.chain.runner();
         done_or_error(self.kept.bitmaps.unbind(runner, bits))
@@ -63,7 +64,7 @@ impl<M: PhysMem + Drop, S: Store> Manager<M, S> {
 
     // FFA_NOTIFICATION_SET of the runner.
     pub(super) fn notification_set(&mut self, bits: &NotificationBits) -> Reply
-        ensures { IsReplied self.old self.new (notification_set self.old.state bits.now) result }
+        ensures { IsReplied self.old self.new (notification_set self.old.state bits.now) no_work result }
     {
         let runner = self.kept.chain.runner();
         done_or_error(self.kept.bitmaps.set(runner, bits))
@@ -76,7 +77,7 @@ impl<M: PhysMem + Drop, S: Store> Manager<M, S> {
         context: u16,
         flags: u32,
     ) -> Reply
-        ensures { IsReplied self.old self.new (notification_get self.old.state receiver.0 context flags) result }
+        ensures { IsReplied self.old self.new (notification_get self.old.state receiver.0 context flags) no_work result }
     {
         let ffa = self.kept.manifest.ffa;
         let runner = self.kept.chain.runner();
@@ -85,7 +86,7 @@ impl<M: PhysMem + Drop, S: Store> Manager<M, S> {
 
     // FFA_NOTIFICATION_INFO_GET of the runner.
     pub(super) fn notification_info_get(&mut self, is_wide: bool) -> Reply
-        ensures { IsReplied self.old self.new (notification_info_get self.old.state is_wide) result }
+        ensures { IsReplied self.old self.new (notification_info_get self.old.state is_wide) no_work result }
     {
         let ffa = self.kept.manifest.ffa;
         let runner = self.kept.chain.runner();

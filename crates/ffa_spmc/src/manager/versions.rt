@@ -4,6 +4,7 @@ ghost use Rattle.std.specs.Prelude.{◌≡◌};
 ghost use Rattle.ffa_model.specs.declared.manifest.Ffa.TheVariants.{V1_2};
 ghost use Rattle.ffa_model.specs.Setup.{ffa_version, form_of, is_served_version};
 ghost use Rattle.ffa_spmc.specs.Served.{IsReplied};
+ghost use Rattle.ffa_physmem.specs.Work.{no_work};
 
 use super::Manager;
 use crate::storage::Store;
@@ -14,7 +15,7 @@ use ffa_setup::{form_of, is_version};
 impl<M: PhysMem + Drop, S: Store> Manager<M, S> {
     // FFA_VERSION of the runner.
     pub(super) fn ffa_version(&mut self, word: u32) -> Reply
-        ensures { IsReplied self.old self.new (ffa_version self.old.state word) result }
+        ensures { IsReplied self.old self.new (ffa_version self.old.state word) no_work result }
     {
         match self.kept.manifest.ffa {
             Ffa::V1_1 => ffa_setup::version(word),
@@ -25,7 +26,7 @@ impl<M: PhysMem + Drop, S: Store> Manager<M, S> {
     // FFA_VERSION on a machine of FF-A 1.2, which keeps the form of the version.
     fn keep_version(&mut self, word: u32) -> Reply
         requires { self.old.state.ffa ≡ V1_2 }
-        ensures { IsReplied self.old self.new (ffa_version self.old.state word) result }
+        ensures { IsReplied self.old self.new (ffa_version self.old.state word) no_work result }
     {
         let form = form_of(word);
         if !self.is_served_version(word, form) {

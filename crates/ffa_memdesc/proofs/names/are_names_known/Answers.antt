@@ -1,5 +1,5 @@
 -- SPDX-License-Identifier: MIT OR Apache-2.0
-use Rattle.std.proofs.Common.{◌≡◌, ℕ, ◌∙◌, arith, sym, ap, true, false}
+use Rattle.std.proofs.Common.{◌≡◌, ℕ, ◌∙◌, arith, sym, ap, false}
 use Rattle.ffa_model.specs.DescriptorPlaces.{in_version}
 use Rattle.ffa_model.specs.SendDescriptor.{is_named}
 use Rattle.ffa_memdesc.specs.Reading.{named_after}

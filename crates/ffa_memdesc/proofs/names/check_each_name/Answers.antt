@@ -1,5 +1,5 @@
 -- SPDX-License-Identifier: MIT OR Apache-2.0
-use Rattle.std.proofs.Common.{◌≡◌, ℕ, ◌<◌, arith}
+use Rattle.std.proofs.Common.{◌≡◌, arith}
 use Rattle.ffa_model.specs.DescriptorPlaces.{in_version}
 use Rattle.ffa_memdesc.specs.Reading.{naming_flaw_at}
 use Rattle.ffa_memdesc.proofs.Firsts.{first_here, first_none}

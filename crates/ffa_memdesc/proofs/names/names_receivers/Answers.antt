@@ -1,5 +1,5 @@
 -- SPDX-License-Identifier: MIT OR Apache-2.0
-use Rattle.std.proofs.Common.{◌≡◌, ◌≢◌, ℕ, Bool, true, false, ◌∙◌, ◌&&◌, ap, sym}
+use Rattle.std.proofs.Common.{◌≡◌, Bool, true, false, ◌∙◌, ◌&&◌}
 use Rattle.ffa_model.specs.DescriptorPlaces.{in_version}
 use Rattle.ffa_memdesc.proofs.RetrieveParts.{named_is}
 use Rattle.ffa_memdesc.proofs.names.names_receivers.Goals as goal

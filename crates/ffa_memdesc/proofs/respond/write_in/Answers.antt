@@ -1,8 +1,6 @@
 -- SPDX-License-Identifier: MIT OR Apache-2.0
-use Rattle.std.proofs.Common.{◌≡◌, ℕ, ◌+◌, ◌++◌, ap, sym, subst, arith}
-use Rattle.ffa_model.specs.DescriptorPlaces.{header_size, accesses_size}
+use Rattle.std.proofs.Common.{ℕ, ◌+◌, ◌++◌, ap, sym, arith}
 use Rattle.ffa_model.specs.ResponseBytes.{header_bytes, access_bytes, response_record}
-use Rattle.ffa_memdesc.specs.Writing.{Wrote}
 use Rattle.ffa_memdesc.proofs.Whole.{responds}
 use Rattle.ffa_memdesc.proofs.Writes.{wrote_as, wrote_to}
 use Rattle.ffa_memdesc.proofs.respond.write_in.Goals as goal

@@ -1,10 +1,9 @@
 -- SPDX-License-Identifier: MIT OR Apache-2.0
-use Rattle.std.proofs.Common.{◌≡◌, ℕ, ◌+◌, ◌∙◌, ap, length, map, sym, arith}
+use Rattle.std.proofs.Common.{◌≡◌, ℕ, ◌∙◌, ap, length, map, sym, arith}
 use Rattle.std.proofs.lemmas.List.{length-map}
 use Rattle.ffa_model.specs.HypervisorRetrieve.{access_granted}
 use Rattle.ffa_memdesc.specs.declared.respond.ResponseHeader.{ResponseHeader}
 use Rattle.ffa_memdesc.specs.Writing.{header_bytes_with}
-use Rattle.ffa_model.specs.DescriptorPlaces.{header_size, accesses_size}
 use Rattle.ffa_memdesc.proofs.Whole.{tells_sent}
 use Rattle.ffa_memdesc.proofs.Writes.{wrote_as, wrote_to}
 use Rattle.ffa_memdesc.proofs.respond.write_sent.Goals as goal

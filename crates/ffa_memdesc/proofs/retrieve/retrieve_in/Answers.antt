@@ -1,11 +1,6 @@
 -- SPDX-License-Identifier: MIT OR Apache-2.0
-use Rattle.std.proofs.Common.{◌≡◌, ◌+◌, ◌∙◌, ap, length, Err, None, of_calls, sym, subst, ◌≤◌, ℕ}
+use Rattle.std.proofs.Common.{◌≡◌, ◌+◌, ap, length, Err, of_calls, sym, subst, ◌≤◌, ℕ}
 use Rattle.ffa_model.specs.DescriptorPlaces.{accesses_size, in_version}
-use Rattle.ffa_model.specs.declared.flaw.RetrieveFlaw.{RetrieveFlaw}
-use Rattle.ffa_model.specs.declared.flaw.Flaw.TheVariants.{Retrieve as FlawOfRetrieve}
-use Rattle.ffa_model.specs.RetrieveDescriptor.{own_index, own_place}
-use Rattle.ffa_model.specs.FirstFlaws.{asked_access_flaw}
-use Rattle.ffa_memdesc.specs.Reading.{access_in}
 use Rattle.ffa_memdesc.proofs.RetrieveParts.{access_inside, access_is, own_index_is, names_fit, names_is, whole_retrieve, first_in_header, first_in_fields, first_in_access, first_in_names}
 use Rattle.ffa_memdesc.proofs.retrieve.retrieve_in.Goals as goal
 

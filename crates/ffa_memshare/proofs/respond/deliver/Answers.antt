@@ -6,6 +6,7 @@ use Rattle.ffa_model.specs.declared.endpoint.Version.TheVariants.{Compact, V1_1,
 use Rattle.ffa_model.specs.DescriptorPlaces.{accesses_size, header_size}
 use Rattle.ffa_model.specs.Ram.{with_page}
 use Rattle.ffa_physmem.proofs.Moments.{Only-map}
+use Rattle.ffa_physmem.proofs.Work.{spends-adds}
 use Rattle.ffa_rxtx.proofs.Moments.{rx-loan, rx-written}
 use Rattle.ffa_model.specs.ResponseBytes.{response_bytes, response_record}
 use Rattle.ffa_model.specs.State.{Buffers}
@@ -45,3 +46,6 @@ pub returns-clause-steps : goal.returns-clause-steps
 returns-clause-steps g c =
     Only-map (g.met.M.PhysMem.in_loan c.args.ram.now c.args.own.rx.0 c.write_response-size.new.out)
     (λ _ s loan. rx-loan (g.M.PhysMem.ram c.args.ram.now) _ (buffers_of c.args.own) c.requires.own c.requires.rx s loan)
+
+pub returns-clause-few : goal.returns-clause-few
+returns-clause-few g c = spends-adds (g.met.M.PhysMem.one_loan c.args.ram.now c.args.own.rx.0 c.write_response-size.new.out)

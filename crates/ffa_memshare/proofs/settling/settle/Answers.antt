@@ -7,12 +7,14 @@ use Rattle.ffa_model.specs.Lists.{is_in_run}
 use Rattle.ffa_model.specs.Ram.{Ram}
 use Rattle.ffa_physmem.specs.Moments.{IsSettledBy}
 use Rattle.ffa_physmem.proofs.Moments.{Only-none, Only-one, Only-then, settled-here, settled-still}
+use Rattle.ffa_physmem.specs.Work.{settles_of}
+use Rattle.ffa_physmem.proofs.Work.{adds-more, adds-none, adds-then, settle-spends, spends-adds}
 use Rattle.ffa_memshare.specs.Ranges.{first_page, in_range, in_ranges}
 use Rattle.ffa_memshare.proofs.Places.{in_range-between, in_ranges-more}
 use Rattle.ffa_memshare.proofs.settling.settle.Goals as goal
 
 pub loop-place-init : goal.loop-place-init
-loop-place-init g c = record { same = refl; steps = Only-none; settled = λ begin end p h there inside. absurd (false≢true inside) }
+loop-place-init g c = record { same = refl; steps = Only-none; settled = λ begin end p h there inside. absurd (false≢true inside); few = adds-none (settles_of 0) }
 
 pub loop-place-preserved : goal.loop-place-preserved
 loop-place-preserved g c =
@@ -39,6 +41,8 @@ loop-place-preserved g c =
                 settled-here now begin end c.args.index c.first_page-first.result range.pages p s earlier its
                 (ap (λ f. is_in_run f range.pages p) first ∙ sym (in_range-between old.base _ range (c.requires k range below (c.at-range.ensures range)) p) ∙ here)
           ]);
+      few = adds-more (adds-then i.few (spends-adds (settle-spends c.settle.ensures.steps)))
+          (record { words = omega arith; settles = omega arith; loans = omega arith; readings = omega arith });
     }
 
 pub returns-clause-settled : goal.returns-clause-settled
@@ -46,3 +50,7 @@ returns-clause-settled g c begin end p h there inside =
     let i = c.loop-place.invariant in
     let all : take c.loop-place.place c.args.ranges.now ≡ c.args.ranges.now = take_all c.loop-place.place c.args.ranges.now (omega (arith, c.len-place-end.ensures.count)) in
     i.settled begin end p h there (ap (λ ranges. in_ranges (g.M.PhysMem.ram c.args.ram.now).base ranges p) all ∙ inside)
+
+pub returns-clause-few : goal.returns-clause-few
+returns-clause-few g c =
+    adds-more c.loop-place.invariant.few (record { words = omega arith; settles = omega (arith, c.loop-place.auto.place-end, c.len-place-end.ensures.count); loans = omega arith; readings = omega arith })

@@ -1,6 +1,8 @@
 -- SPDX-License-Identifier: MIT OR Apache-2.0
-use Rattle.std.proofs.Common.{◌≡◌, ◌∙◌, ◌+◌, ◌<◌, ◌≤◌, length, ap, arith}
+use Rattle.std.proofs.Common.{◌≡◌, ◌∙◌, ◌+◌, ◌-◌, ◌<◌, ◌≤◌, length, ap, arith}
 use Rattle.ffa_physmem.proofs.Moments.{Only-map, Only-none, Only-then, beside-more, loan-writing, writing-more, writing-then}
+use Rattle.ffa_physmem.specs.Work.{loans_of}
+use Rattle.ffa_physmem.proofs.Work.{adds-more, adds-none, adds-then, spends-adds}
 use Rattle.ffa_memshare.specs.Ranges.{first_page, in_range}
 use Rattle.ffa_memshare.proofs.Moments.{between-more, cleared-beside, cleared-none, cleared-page}
 use Rattle.ffa_memshare.proofs.Places.{between, between-last, in_range-between}
@@ -15,6 +17,7 @@ loop-page-init g c =
       from = omega (arith, start);
       cleared = cleared-none old first c.first_page-first.result start;
       steps = Only-none;
+      few = adds-none (loans_of (c.first_page-first.result - first));
     }
 
 pub loop-page-preserved : goal.loop-page-preserved
@@ -38,6 +41,7 @@ loop-page-preserved g c =
           (λ _ s loan. writing-then old middle s more
           (beside-more old middle so_far more (λ p is. between-more first page (page + 1) p (omega arith) is) (cleared-beside old middle so_far i.cleared))
           (loan-writing middle page s more (between-last first page i.from) loan));
+      few = adds-more (adds-then i.few (spends-adds c.clear_page.ensures.spent)) (record { words = omega arith; settles = omega arith; loans = omega (arith, i.from); readings = omega arith });
     }
 
 pub returns-clause-steps : goal.returns-clause-steps
@@ -50,3 +54,11 @@ returns-clause-steps g c =
     let upto : c.loop-page.page ≤ first + range.pages = omega (arith, start, c.loop-page.auto.page-end) in
     Only-map i.steps (λ _ s its. writing-more old s (between first c.loop-page.page) (in_range old.base range)
     (λ p is. in_range-between old.base _ range c.requires p ∙ between-more first c.loop-page.page (first + range.pages) p upto is) its)
+
+pub returns-clause-few : goal.returns-clause-few
+returns-clause-few g c =
+    let old = g.M.PhysMem.ram c.args.ram.now in
+    let range = c.args.range.now in
+    let first = first_page old.base range in
+    let start : c.first_page-first.result ≡ first = c.first_page-first.ensures ∙ ap (λ b. first_page b range) c.base.ensures.value in
+    adds-more c.loop-page.invariant.few (record { words = omega arith; settles = omega arith; loans = omega (arith, start, c.loop-page.auto.page-end); readings = omega arith })

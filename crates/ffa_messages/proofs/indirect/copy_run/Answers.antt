@@ -6,6 +6,8 @@ use Rattle.ffa_model.specs.Lists.{is_in_run}
 use Rattle.ffa_model.specs.Ram.{Ram, page_of, with_page}
 use Rattle.ffa_model.proofs.Runs.{to-run}
 use Rattle.ffa_physmem.proofs.Moments.{Only-none, Only-then, beside-same, beside-then, loan-writing, page-beside, writing-then}
+use Rattle.ffa_physmem.specs.Work.{loans_of}
+use Rattle.ffa_physmem.proofs.Work.{adds-more, adds-none, adds-then, spends-adds}
 use Rattle.ffa_rxtx.specs.Parts.{run_in, with_run}
 use Rattle.ffa_rxtx.proofs.Runs.{nothing-runs}
 use Rattle.ffa_messages.proofs.Copies.{next-piece, one-more}
@@ -19,6 +21,7 @@ loop-i-init g c =
     record {
       stays = beside-same _ _;
       steps = Only-none;
+      few = adds-none (loans_of 0);
       size = refl;
       same = λ k lt. refl;
       whole = λ k lt. absurd (omega (arith, lt));
@@ -53,6 +56,7 @@ loop-i-preserved g c =
     record {
       stays = beside-then old now (g.M.PhysMem.ram c.copy.new.self) its c.loop-i.invariant.stays (page-beside now (g.M.PhysMem.ram c.copy.new.self) (to + i) _ its there copied);
       steps = Only-then c.loop-i.invariant.steps c.copy.ensures.steps (λ _ s loan. writing-then old now s its c.loop-i.invariant.stays (loan-writing now (to + i) s its there loan));
+      few = adds-more (adds-then c.loop-i.invariant.few (spends-adds c.copy.ensures.spent)) (record { words = omega arith; settles = omega arith; loans = omega arith; readings = omega arith });
       size = ap (λ (r : Ram). length r.pages) copied ∙ length-set now.pages (to + i) _ ∙ c.loop-i.invariant.size;
       same = λ k lt.
           let apart : first + k ≢ to + i = λ same.
@@ -77,3 +81,6 @@ returns-clause-ram g c =
     let short = length-take c.args.size (run_in old c.args.from.now.tx.0 c.args.from.now.pages) in
     let none : drop (4096 * i) msg ≡ [] = drop_all (4096 * i) msg (omega (arith, done, short)) in
     sym (nothing-runs (m - i) now (c.args.to.now.rx.0 + i)) ∙ ap (with_run (m - i) now (c.args.to.now.rx.0 + i)) (sym none) ∙ c.loop-i.invariant.rest
+
+pub returns-clause-few : goal.returns-clause-few
+returns-clause-few g c = adds-more c.loop-i.invariant.few (record { words = omega arith; settles = omega arith; loans = omega arith; readings = omega arith })

@@ -1,5 +1,5 @@
 -- SPDX-License-Identifier: MIT OR Apache-2.0
-use Rattle.std.proofs.Common.{map, sym}
+use Rattle.std.proofs.Common.{◌+◌, ◌/◌, ℕ, map, sym}
 use Rattle.ffa_model.specs.First.{party_of}
 use Rattle.ffa_model.specs.Identifiers.{place}
 use Rattle.ffa_model.specs.Messages.{header_in, send2_guards}
@@ -10,6 +10,8 @@ use Rattle.ffa_messages.proofs.Pages.{rx_beside, rx_in_ram}
 use Rattle.std.proofs.Common.{subst}
 use Rattle.ffa_model.specs.Buffers.{buffers_in}
 use Rattle.ffa_physmem.proofs.Moments.{Only-map, Only-none}
+use Rattle.ffa_physmem.specs.Work.{AddsAtMost, loans_of}
+use Rattle.ffa_physmem.proofs.Work.{adds-none}
 use Rattle.ffa_rxtx.specs.Parts.{IsRxWriting}
 use Rattle.ffa_messages.proofs.indirect.send2.Goals as goal
 
@@ -41,3 +43,10 @@ pub returns-clause-steps : goal.returns-clause-steps
 returns-clause-steps g c =
     Only-map c.deliver.ensures.steps
     (λ _ s its. subst (λ e. IsRxWriting (g.M.PhysMem.ram c.args.ram.now) (buffers_in c.args.buffers.now e) s) c.in_ok-message.ensures.receiver its)
+
+pub returns-in_err-message-clause-few : goal.returns-in_err-message-clause-few
+returns-in_err-message-clause-few g c = adds-none (loans_of _)
+
+pub returns-clause-few : goal.returns-clause-few
+returns-clause-few g c =
+    subst (λ (n : ℕ). AddsAtMost (g.M.PhysMem.past c.args.ram.now) (g.M.PhysMem.past c.deliver.new.ram) (loans_of ((n + 4095) / 4096))) c.in_ok-message.ensures.size c.deliver.ensures.few

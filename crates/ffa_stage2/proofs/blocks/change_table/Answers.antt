@@ -1,6 +1,7 @@
 -- SPDX-License-Identifier: MIT OR Apache-2.0
 use Rattle.std.proofs.Common.{◌∙◌, ◌-◌, arith, rules, sym, inl, inr}
 use Rattle.ffa_physmem.proofs.Moments.{Only-map, Only-then}
+use Rattle.ffa_physmem.proofs.Work.{adds-more, adds-then}
 use Rattle.ffa_stage2.proofs.Moments.{cut-then, names-filled, orderly-more, orderly-table, way-table, way-replaced}
 use Rattle.ffa_stage2.proofs.PageRuns.{KeepsBeside-of_filled, with_run-here}
 use Rattle.ffa_stage2.specs.Blocks.{IsMixed}
@@ -38,3 +39,18 @@ returns-clause-orders g c rights names mixed =
     (c.join.ensures.orders run (names-filled old full x rights from to right c.requires.place names c.fill.ensures.filled)
     (with_run-here rights from to right (to - 1) (omega (arith, c.requires.from)) (omega (arith, c.requires.from))))
     (λ h s its. orderly-more x h s (IsMixed run) (IsSameRun rights from to right) (λ same r one. mixed r (λ j hj. sym (same j hj) ∙ one j hj)) its)
+
+pub returns-clause-few : goal.returns-clause-few
+returns-clause-few g c rights names =
+    let old = g.M.PhysMem.ram c.args.memory.now in
+    let full = g.M.PhysMem.ram c.fill.new.memory in
+    let x = c.args.place.now in
+    let from = c.args.from in
+    let to = c.args.to in
+    let right = c.args.right in
+    let (joins, few, carried) = c.join.ensures.few (with_run rights from to right) (names-filled old full x rights from to right c.requires.place names c.fill.ensures.filled)
+    (with_run-here rights from to right (to - 1) (omega (arith, c.requires.from)) (omega (arith, c.requires.from))) in (
+      joins,
+      adds-more (adds-then c.fill.ensures.few few) (record { words = omega arith; settles = omega arith; loans = omega arith; readings = omega arith }),
+      carried,
+    )

@@ -46,3 +46,6 @@ returns-clause-orders g c =
     Only-map c.write_words.ensures.orders
     (λ h s its. one-same _ c.args.place.now.table.0 c.args.from c.args.to _ (λ j. page_word (c.args.place.now.address + 4096 * j) c.args.right) s c.requires.to its
     (words c.args.place.now.address c.args.right c.leaf.result c.if-is_some.step place.aligned place.within c.leaf.ensures step))
+
+pub returns-clause-few : goal.returns-clause-few
+returns-clause-few g c = c.write_words.ensures.few

@@ -1,10 +1,12 @@
 -- SPDX-License-Identifier: MIT OR Apache-2.0
-use Rattle.std.proofs.Common.{◌∙◌, ℕ, ◌-◌, ap, sym, arith, inl, inr, Option}
+use Rattle.std.proofs.Common.{◌∙◌, ℕ, ◌-◌, ap, sym, arith, inl, inr, refl, Option}
 use Rattle.std.proofs.lemmas.Bool.{both_ways}
 use Rattle.ffa_model.specs.Descriptor.{page_word}
 use Rattle.ffa_model.specs.declared.rights.Rights.{Rights}
 use Rattle.ffa_physmem.proofs.Moments.{Only-map, Only-none}
+use Rattle.ffa_physmem.proofs.Work.{adds-none}
 use Rattle.ffa_stage2.specs.Blocks.{IsMixed}
+use Rattle.ffa_stage2.specs.Work.{change_work}
 use Rattle.ffa_stage2.proofs.Moments.{orderly-more}
 use Rattle.ffa_stage2.proofs.OneBlock.{block-first, join-maps, KeepsBeside-of_middle}
 use Rattle.ffa_stage2.proofs.blocks.join.Goals as goal
@@ -57,3 +59,9 @@ returns-then-is_one-clause-orders g c rights names is =
 
 pub returns-else-is_one-clause-orders : goal.returns-else-is_one-clause-orders
 returns-else-is_one-clause-orders g c rights names is = Only-none
+
+pub returns-then-is_one-clause-few : goal.returns-then-is_one-clause-few
+returns-then-is_one-clause-few g c rights names is = (1, c.replace.ensures.few, inr (refl, (c.is_one.ensures.one rights names is).0 c.if-is_one.true))
+
+pub returns-else-is_one-clause-few : goal.returns-else-is_one-clause-few
+returns-else-is_one-clause-few g c rights names is = (0, adds-none (change_work 0 0 0), inl refl)

@@ -10,3 +10,6 @@ returns-clause-steps g c = c.write_words.ensures.steps
 
 pub returns-clause-orders : goal.returns-clause-orders
 returns-clause-orders g c = c.write_words.ensures.orders
+
+pub returns-clause-few : goal.returns-clause-few
+returns-clause-few g c = c.write_words.ensures.few

@@ -3,10 +3,13 @@ use Rattle.std.proofs.Common.{◌∙◌, ℕ, ◌-◌, ap, sym, arith, inl, inr,
 use Rattle.ffa_model.specs.Descriptor.{page_word}
 use Rattle.ffa_model.specs.declared.rights.Rights.{Rights}
 use Rattle.ffa_physmem.proofs.Moments.{Only-map, Only-none, Only-one}
+use Rattle.ffa_physmem.proofs.Work.{adds-more, adds-none, spends-adds, store-spends}
 use Rattle.ffa_model.specs.Ram.{Ram}
+use Rattle.ffa_stage2.specs.Work.{change_work}
+use Rattle.ffa_stage2.proofs.Work.{carry-few, carry-mixed}
 use Rattle.ffa_stage2.specs.Places.{IsSameRun, word_at}
 use Rattle.ffa_stage2.proofs.Moments.{orderly-more, orderly-write}
-use Rattle.ffa_stage2.proofs.OneBlock.{block-first, block-here, typed, join-maps, some_of, written-middle, KeepsBeside-of_middle}
+use Rattle.ffa_stage2.proofs.OneBlock.{block-first, block-here, table-here, typed, typed-other, join-maps, some_of, written-middle, KeepsBeside-of_middle}
 use Rattle.ffa_stage2.proofs.PageRuns.{whole-changes}
 use Rattle.ffa_stage2.proofs.blocks.put_block.Goals as goal
 
@@ -102,3 +105,19 @@ returns-else-now-eq-BLOCK-clause-orders g c rights maps =
     let word = c.leaf-word.ensures ∙ ap (λ (q : Option Rights). page_word x.address q) is ∙ block-first x.address r place.aligned place.within in
     Only-map c.replace.ensures.orders (λ h s its. orderly-more x h s ⊥ (IsSameRun rights 0 512 c.args.right)
     (whole-changes old x rights c.args.right r c.word-now.result (c.leaf-word.result - 2) place maps is c.word-now.ensures (omega (arith, word)) c.if-now-word.false) its)
+
+pub returns-then-now-word-clause-few : goal.returns-then-now-word-clause-few
+returns-then-now-word-clause-few g c rights maps carry is = (0, omega (arith, carry-few rights carry is), adds-none (change_work 1 0 0))
+
+pub returns-then-now-eq-BLOCK-clause-few : goal.returns-then-now-eq-BLOCK-clause-few
+returns-then-now-eq-BLOCK-clause-few g c rights maps carry is = (0, omega (arith, carry-few rights carry is), spends-adds (store-spends c.write_word.ensures.steps))
+
+pub returns-else-now-eq-BLOCK-clause-few : goal.returns-else-now-eq-BLOCK-clause-few
+returns-else-now-eq-BLOCK-clause-few g c rights maps carry is =
+    let old = g.M.PhysMem.ram c.args.memory.now in
+    let x = c.args.place.now in
+    let (names, mixed) = table-here old x rights c.requires.place maps (typed-other old x _ c.word-now.ensures c.if-now-eq-BLOCK.false) in (
+      1,
+      omega (arith, carry-mixed rights carry mixed is),
+      adds-more c.replace.ensures.few (record { words = omega arith; settles = omega arith; loans = omega arith; readings = omega arith }),
+    )

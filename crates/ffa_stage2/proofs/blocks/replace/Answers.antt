@@ -2,6 +2,7 @@
 use Rattle.std.proofs.Common.{◌∙◌, refl, ap, sym, subst, arith, inl, inr}
 use Rattle.ffa_model.specs.Ram.{Ram}
 use Rattle.ffa_physmem.proofs.Moments.{Only-behind, Only-map, Only-one, Only-then}
+use Rattle.ffa_physmem.proofs.Work.{adds-then, settle-spends, spends-adds, store-spends}
 use Rattle.ffa_stage2.specs.Orders.{IsWritten}
 use Rattle.ffa_stage2.specs.Places.{IsCut, word_at}
 use Rattle.ffa_stage2.proofs.OneBlock.{written-middle, written-again, KeepsBeside-of_middle, IsPlace-kept}
@@ -54,3 +55,8 @@ returns-clause-orders g c =
     (Only-behind c.settle.ensures.steps c.write_word-2.ensures.steps)
     (λ h s (is, (f, earlier, at, forgot)). orderly-write x h s seen c.args.word ⊥ (λ none. none) place (omega (arith, c.ranges.word.fits)) is.before is.after
     (inr (inl (ap (λ (r : Ram). word_at r x) (is.before ∙ c.settle.ensures.ram) ∙ one.here, (f, earlier, at, forgot.settled), c.requires.word))))
+
+pub returns-clause-few : goal.returns-clause-few
+returns-clause-few g c =
+    adds-then (adds-then (spends-adds (store-spends c.write_word.ensures.steps)) (spends-adds (settle-spends c.settle.ensures.steps)))
+    (spends-adds (store-spends c.write_word-2.ensures.steps))

@@ -1,10 +1,13 @@
 -- SPDX-License-Identifier: MIT OR Apache-2.0
 use Rattle.std.proofs.Common.{◌≡◌, ◌∙◌, ℕ, ◌%◌, refl, ap, sym, arith, inl, inr}
 use Rattle.ffa_physmem.proofs.Moments.{Only-map, Only-none, Only-then}
+use Rattle.ffa_physmem.proofs.Work.{adds-more, adds-none, adds-then}
+use Rattle.ffa_stage2.specs.Work.{change_work}
+use Rattle.ffa_stage2.proofs.Work.{carry-few, carry-same}
 use Rattle.ffa_stage2.proofs.OneBlock.{block-here, block-fits, typed, KeepsBeside-of_middle, KeepsBeside-then, IsPlace-kept}
 use Rattle.ffa_stage2.proofs.Moments.{apart-same, apart-filled, cut-then, orderly-apart, orderly-more, way-filling, way-replaced}
 use Rattle.ffa_stage2.specs.Places.{IsSameRun, word_at}
-use Rattle.ffa_stage2.proofs.PageRuns.{split-changes, split-kept, split-maps, three-filled}
+use Rattle.ffa_stage2.proofs.PageRuns.{block-right, with_run-same, split-changes, split-kept, split-maps, three-filled}
 use Rattle.ffa_stage2.proofs.blocks.split.Goals as goal
 
 pub returns-then-leaf-word-clause-mapped : goal.returns-then-leaf-word-clause-mapped
@@ -106,3 +109,37 @@ returns-clause-orders g c rights maps =
     c.keep-2.ensures.orders (λ h s one. orderly-apart x h s old low 512 c.args.to _ Same place second its (omega arith) changes one))
     c.fill.ensures.orders (λ h s one. orderly-apart x h s old high c.args.to c.args.from _ Same place third its c.requires.to changes one))
     c.replace.ensures.orders (λ h s is. orderly-more x h s ⊥ Same changes is)
+
+-- the block has the right already
+pub returns-then-leaf-word-clause-few : goal.returns-then-leaf-word-clause-few
+returns-then-leaf-word-clause-few g c rights maps carry is =
+    let ram = g.M.PhysMem.ram c.args.memory.now in
+    let x = c.args.place.now in
+    let block = block-here ram x rights c.requires.place maps (typed ram x _ c.requires.word c.requires.block) in
+    let same = (block-right ram x rights c.args.right c.args.word _ c.requires.place block c.requires.word c.leaf.ensures).0 c.if-leaf-word.true in
+    record {
+      joins = 0;
+      splits = 0;
+      left = carry;
+      few = adds-none (change_work 0 0 0);
+      balance = omega arith;
+      carried = carry-same rights _ carry (with_run-same rights c.args.from c.args.to c.args.right block.right block.one same) is;
+      split = inl refl;
+    }
+
+pub returns-clause-few : goal.returns-clause-few
+returns-clause-few g c rights maps carry is =
+    let old = g.M.PhysMem.ram c.args.memory.now in
+    let x = c.args.place.now in
+    let place = c.requires.place in
+    let block = block-here old x rights place maps (typed old x _ c.requires.word c.requires.block) in
+    record {
+      joins = 0;
+      splits = 1;
+      left = 0;
+      few = adds-more (adds-then (adds-then (adds-then c.keep.ensures.few c.keep-2.ensures.few) c.fill.ensures.few) c.replace.ensures.few)
+          (record { words = omega (arith, c.requires.from, c.requires.to); settles = omega arith; loans = omega arith; readings = omega arith });
+      balance = omega (arith, carry-few rights carry is);
+      carried = inl refl;
+      split = inr (refl, (block.right, block.one, λ same. c.if-leaf-word.false ((block-right old x rights c.args.right c.args.word _ place block c.requires.word c.leaf.ensures).1 same)));
+    }

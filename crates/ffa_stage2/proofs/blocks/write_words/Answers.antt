@@ -1,6 +1,8 @@
 -- SPDX-License-Identifier: MIT OR Apache-2.0
-use Rattle.std.proofs.Common.{◌≡◌, ◌+◌, ◌*◌, ◌^◌, ◌<◌, length, arith, rules}
+use Rattle.std.proofs.Common.{◌≡◌, ◌+◌, ◌-◌, ◌*◌, ◌^◌, ◌<◌, length, arith, rules}
 use Rattle.ffa_physmem.proofs.Moments.{Only-map, Only-none, Only-one, Only-then}
+use Rattle.ffa_physmem.proofs.Work.{adds-more, adds-none, adds-then, spends-adds, store-spends}
+use Rattle.ffa_stage2.specs.Work.{change_work}
 use Rattle.ffa_stage2.proofs.Moments.{one-more, one-of-store, one-up-to}
 use Rattle.ffa_stage2.proofs.PageRuns.{filled-by, IsFilling-more, IsFilling-upto, run-fits}
 use Rattle.ffa_stage2.proofs.blocks.write_words.Goals as goal
@@ -28,6 +30,8 @@ loop-place-preserved g c =
             omega arith,
             filled-by old middle s.after c.args.table.0 c.args.from place (λ j. c.args.first + c.args.step * j) i.from i.written table below fits (rw c.from.ensures at is.after),
           ));
+      few = adds-more (adds-then i.few (spends-adds (store-spends c.write_word.ensures.steps)))
+          (record { words = omega (arith, i.from); settles = omega arith; loans = omega arith; readings = omega arith });
     }
 
 pub loop-place-init : goal.loop-place-init
@@ -36,6 +40,7 @@ loop-place-init g c = record {
   written = search rules;
   orders = Only-none;
   steps = Only-none;
+  few = adds-none (change_work (c.args.from - c.args.from) 0 0);
 }
 
 pub returns-clause-steps : goal.returns-clause-steps
@@ -47,3 +52,8 @@ pub returns-clause-orders : goal.returns-clause-orders
 returns-clause-orders g c =
     let all : c.loop-place.place ≡ c.args.to = omega arith in
     Only-map c.loop-place.invariant.orders (λ h s its. one-up-to (g.M.PhysMem.ram c.args.memory.now) c.args.table.0 c.args.from c.loop-place.place c.args.to _ s (omega (arith, all)) its)
+
+pub returns-clause-few : goal.returns-clause-few
+returns-clause-few g c =
+    let all : c.loop-place.place ≡ c.args.to = omega arith in
+    adds-more c.loop-place.invariant.few (record { words = omega (arith, all); settles = omega arith; loans = omega arith; readings = omega arith })

@@ -32,3 +32,6 @@ returns-clause-orders g c access built =
     (λ h s ordered. ordered-more (g.M.PhysMem.ram c.args.memory.now) l.tables.0 l.blocks e
     (IsSameIn access (with_pages access e page (page + 1) right) e) (IsSameIn access (with_right access e page right) e) h s
     (λ k _ same j hj. with_pages-one access e page right e (512 * k + j) ∙ same j hj) ordered)
+
+pub returns-clause-few : goal.returns-clause-few
+returns-clause-few g c access split built splits = c.set_pages.ensures.few access split built splits

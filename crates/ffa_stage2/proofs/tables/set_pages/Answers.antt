@@ -1,9 +1,12 @@
 -- SPDX-License-Identifier: MIT OR Apache-2.0
-use Rattle.std.proofs.Common.{◌≡◌, ◌∷◌, ◌+◌, ◌*◌, ◌/◌, ◌%◌, ◌-◌, ◌<◌, arith, subst, sym}
+use Rattle.std.proofs.Common.{◌≡◌, ◌∷◌, ◌+◌, ◌*◌, ◌/◌, ◌%◌, ◌-◌, ◌<◌, ℕ, arith, inl, inr, refl, subst, sym}
+use Rattle.std.proofs.lemmas.Bool.{cases_lt}
 use Rattle.arrayvec.specs.ArrayVec.{array_vec_len}
 use Rattle.ffa_stage2.specs.Tables.{IsBuilt, IsSameIn, rights_of_block, with_pages}
 use Rattle.ffa_stage2.specs.Places.{IsSameRun}
+use Rattle.ffa_stage2.specs.Work.{IsCarryAt, IsChange, words_written}
 use Rattle.ffa_stage2.proofs.Rights.{built-same, with_pages-none}
+use Rattle.ffa_stage2.proofs.Work.{ArePassed, change-begins, change-ends, change-few, change-then}
 use Rattle.ffa_stage2.proofs.Changes.{place-of, maps-of, others-beside, blocks-built}
 use Rattle.ffa_physmem.proofs.Moments.{Only-both, Only-map, Only-none, Only-then}
 use Rattle.ffa_stage2.proofs.Moments.{between-block, ordered-of, orderly-more, place-of-kept, same-run, walks-between}
@@ -23,6 +26,8 @@ loop-next-init g c =
       steps = λ access h. Only-none;
       orders = λ access h. Only-none;
       others_stay = Only-none;
+      at = inr (inl refl);
+      runs = λ access split carry h splits carried. change-begins (g.M.PhysMem.past c.args.memory.now) access c.args.index c.args.right split c.args.first.0 (c.args.first.0 + c.args.count) carry carried;
     }
 
 pub of-place-requires-clause-fits : goal.of-place-requires-clause-fits
@@ -95,6 +100,17 @@ loop-next-preserved g c =
           (c.change.ensures.steps (rights_of_block rights k)
           (maps-of (g.M.PhysMem.ram c.loop-next.memory) _ _ c.args.index k _ rights c.of-place.ensures (built.each c.args.index k c.requires.index hk)))
           (λ hist s way. KeepsOthers-then _ _ s.after _ _ _ i.others (others-beside (g.M.PhysMem.ram c.loop-next.memory) s.after _ _ c.args.index k _ hk c.of-place.ensures way.beside));
+      at = elim (cases_lt (512 * k + 512) (c.args.first.0 + c.args.count)) [ inl less ↦ inl (omega (arith, c.min-to.ensures, less)) | inr more ↦ inr (inr (omega (arith, c.min-to.ensures, more))) ];
+      runs = λ access split carry h splits carried.
+          let built = i.built access h in
+          let rights = with_pages access c.args.index c.args.first.0 c.loop-next.next c.args.right c.args.index in
+          let its = i.runs access split carry h splits carried in
+          change-then access c.args.index c.args.right split c.args.first.0 c.loop-next.next c.min-to.result (c.args.first.0 + c.args.count)
+          i.from (omega (arith, c.min-to.ensures, c.loop-next-test.true)) (omega (arith, c.min-to.ensures)) (omega (arith, c.min-to.ensures))
+          (elim i.at [ inl aligned ↦ inl aligned | inr (inl begins) ↦ inr begins | inr (inr ends) ↦ absurd (omega (arith, ends, c.loop-next-test.true)) ])
+          (elim (cases_lt (512 * k + 512) (c.args.first.0 + c.args.count)) [ inl less ↦ inl (omega (arith, c.min-to.ensures, less)) | inr more ↦ inr (omega (arith, c.min-to.ensures, more)) ]) splits its
+          (c.change.ensures.few (rights_of_block rights k)
+          (maps-of (g.M.PhysMem.ram c.loop-next.memory) _ _ c.args.index k _ rights c.of-place.ensures (built.each c.args.index k c.requires.index hk)) its.left its.carried.0);
     }
 
 pub returns-clause-built : goal.returns-clause-built
@@ -152,3 +168,22 @@ returns-clause-mixtures g c rest =
     (mixed-along old new _ _ _ _ _ rest (g.met.M.PhysMem.in_turn c.loop-next.memory) (Only-map (Only-both (Only-both (i.steps access h) i.others_stay) (i.orders access h))
     (λ hist s ((between, others), ordered). pages-moment old new _ _ _ access _ h is i.others.base c.args.index c.requires.index _ hist s between others.base ordered)))
     (λ hist s its. mixtures-between old new s.after _ _ _ (s ∷ hist) (one-changes old new _ _ _ c.args.index _ _ c.args.right (returns-clause-walks g c)) its)
+
+pub returns-clause-runs : goal.returns-clause-runs
+returns-clause-runs g c access split carry h splits carried =
+    let i = c.loop-next.invariant in
+    let end = c.args.first.0 + c.args.count in
+    let all : c.loop-next.next ≡ end = omega (arith, i.upto, c.loop-next-test.false) in
+    let past = g.M.PhysMem.past c.args.memory.now in
+    let later = g.M.PhysMem.past c.loop-next.memory in
+    change-ends past later c.args.right split c.args.first.0 end carry (with_pages access c.args.index c.args.first.0 end c.args.right c.args.index)
+    (subst (λ (n : ℕ). IsChange past later (words_written c.args.right c.args.first.0 n) (n / 512 - c.args.first.0 / 512) carry
+    (IsCarryAt (with_pages access c.args.index c.args.first.0 n c.args.right c.args.index) n) (ArePassed split c.args.first.0 n end)) all
+    (i.runs access split carry h splits carried))
+
+pub returns-clause-few : goal.returns-clause-few
+returns-clause-few g c access split h splits =
+    let end = c.args.first.0 + c.args.count in
+    change-few (g.M.PhysMem.past c.args.memory.now) (g.M.PhysMem.past c.loop-next.memory) c.args.right split c.args.first.0 end
+    (with_pages access c.args.index c.args.first.0 end c.args.right c.args.index) (omega arith)
+    (returns-clause-runs g c access split 0 h splits (inl refl, λ _. refl))

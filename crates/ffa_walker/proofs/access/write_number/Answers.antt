@@ -4,6 +4,7 @@ use Rattle.ffa_model.specs.Ram.{Ram}
 use Rattle.ffa_model.specs.Reach.{page_index}
 use Rattle.ffa_physmem.specs.Moments.{IsInLoan, IsWriting, Only, Past, Step}
 use Rattle.ffa_physmem.proofs.Moments.{Only-map, loan-writing}
+use Rattle.ffa_physmem.proofs.Work.{spends-adds}
 use Rattle.ffa_walker.proofs.access.write_number.Goals as goal
 
 -- a page that is lent is written
@@ -26,3 +27,15 @@ returns-in-B4-clause-steps g c = written (g.M.PhysMem.ram c.args.memory.now) c.f
 
 pub returns-in-B8-clause-steps : goal.returns-in-B8-clause-steps
 returns-in-B8-clause-steps g c = written (g.M.PhysMem.ram c.args.memory.now) c.from.result c.args.physical (c.from.ensures ∙ c.base.ensures.value) (g.met.M.PhysMem.in_loan c.args.memory.now _ _)
+
+pub returns-in-B1-clause-few : goal.returns-in-B1-clause-few
+returns-in-B1-clause-few g c = spends-adds (g.met.M.PhysMem.one_loan c.args.memory.now _ _)
+
+pub returns-in-B2-clause-few : goal.returns-in-B2-clause-few
+returns-in-B2-clause-few g c = spends-adds (g.met.M.PhysMem.one_loan c.args.memory.now _ _)
+
+pub returns-in-B4-clause-few : goal.returns-in-B4-clause-few
+returns-in-B4-clause-few g c = spends-adds (g.met.M.PhysMem.one_loan c.args.memory.now _ _)
+
+pub returns-in-B8-clause-few : goal.returns-in-B8-clause-few
+returns-in-B8-clause-few g c = spends-adds (g.met.M.PhysMem.one_loan c.args.memory.now _ _)

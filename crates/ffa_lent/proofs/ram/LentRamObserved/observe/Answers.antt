@@ -54,4 +54,4 @@ pub returns-clause-step : goal.returns-clause-step
 returns-clause-step c =
     noted c.args.self.now (seen_ram (with_items c.args.self.now.copies c.copy_frames.new.copies).items c.args.first.0 c.args.count (frame_ram c.note.new.self.frames)) c.note.new.self (c.note.ensures ∙ ap (with_event c.args.self.now.memory) c.doing-done.ensures)
     (went-back (ram_of c.args.self.now) (seen_ram (with_items c.args.self.now.copies c.copy_frames.new.copies).items c.args.first.0 c.args.count (frame_ram c.note.new.self.frames)) c.args.first.0 c.args.count (returns-clause-beside c))
-    (record { before = refl; after = refl; none = refl; reading = refl })
+    (record { before = refl; after = refl; none = refl; reading = refl; words = refl; loans = refl })

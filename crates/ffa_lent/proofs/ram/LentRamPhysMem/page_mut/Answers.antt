@@ -16,8 +16,8 @@ returns-in-Some c =
     let value = get_or_read m.copies.items _ _ inside c.index_mut.ensures.value [] ∙ ap (λ k. get_or m.copies.items k []) place ∙ sym (page_of-copy m c.args.page.0 c.requires at) in (
       (
         refl,
-        λ w. with_copy-there (begun m c.args.page.0) c.args.page.0 w _ _ c.note-in-Some.new.self
-            (c.note-in-Some.ensures ∙ ap (λ (x : Memory). with_event x c.doing-done.result.event) c.note.ensures ∙ ap (λ (e : Event). with_event (with_event m.memory e) e) c.doing-done.ensures) at c.in-Some.place place,
+        λ w. with_copy-there (begun m c.args.page.0) c.args.page.0 w 0 _ _ c.note-in-Some.new.self
+            (c.note-in-Some.ensures ∙ ap (λ (x : Memory). with_event x c.doing-done.result.event) c.note.ensures ∙ (λ j. with_event (with_event m.memory (c.doing-begun.ensures j)) (c.doing-done.ensures j))) at c.in-Some.place place,
       ),
       record { value = value; writes_back = tt },
     )
@@ -31,8 +31,8 @@ returns c =
     let off = observed-no m c.args.page.0 (sym c.in_default.is ∙ c.place.ensures.value) in (
       (
         refl,
-        λ w. with_frame-there (begun m c.args.page.0) c.args.page.0 w _ _ _
-            (ap (λ (e : Event). with_frame_bytes (with_event (with_event m.memory e) e) c.args.page.0 w) c.doing-done.ensures) off,
+        λ w. with_frame-there (begun m c.args.page.0) c.args.page.0 w 0 _ _ _
+            (λ j. with_frame_bytes (with_event (with_event m.memory (c.doing-begun.ensures j)) (c.doing-done.ensures j)) c.args.page.0 w) off,
       ),
       record { value = c.lend.ensures.value ∙ sym (page_of-frame m c.args.page.0 c.requires off); writes_back = tt },
     )

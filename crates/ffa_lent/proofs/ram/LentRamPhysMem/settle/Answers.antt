@@ -20,4 +20,4 @@ returns-clause-steps c =
     let m = c.args.self.now in
     noted-beside m c.note.new.self (c.note.ensures ∙ ap (with_event m.memory) c.doing-done.ensures)
     (went-back (ram_of m) (ram_of m) c.args.first.0 c.args.count (beside-same (ram_of m) (is_in_run c.args.first.0 c.args.count)))
-    (record { before = refl; after = refl; settled = refl; unread = refl })
+    (record { before = refl; after = refl; settled = refl; unread = refl; words = refl; loans = refl })

@@ -19,8 +19,8 @@ returns-in-Some-clause-ram c =
     let (at, place) = observed-at m c.args.page.0 c.in-Some.place (sym c.in-Some.is ∙ c.place.ensures.value) in
     let inside : c.in-Some.place < length m.copies.items = omega (arith, c.in-Some.ensures.within, m.copies.ok) in
     let value = get_or_read m.copies.items _ _ inside c.index_mut.ensures.value [] ∙ ap (λ k. get_or m.copies.items k []) place ∙ sym (page_of-copy m c.args.page.0 c.requires.page at) in
-    ap ram_of (with_copy-there m c.args.page.0 c.put_word.new.page m.room m.held c.note.new.self (c.note.ensures ∙ ap (with_event m.memory) c.doing-done.ensures) at c.in-Some.place place)
-    ∙ ram_of-written m c.args.page.0 c.put_word.new.page
+    ap ram_of (with_copy-there m c.args.page.0 c.put_word.new.page 1 m.room m.held c.note.new.self (c.note.ensures ∙ ap (with_event m.memory) c.doing-done.ensures) at c.in-Some.place place)
+    ∙ ram_of-written m c.args.page.0 c.put_word.new.page 1
     ∙ ap (with_page (ram_of m) c.args.page.0) (c.put_word.ensures ∙ ap (λ (b : List ℕ). with_word b c.args.index c.args.value) value)
 
 pub returns-in-Some-clause-steps : goal.returns-in-Some-clause-steps
@@ -31,12 +31,14 @@ returns-in-Some-clause-steps c =
     let value = get_or_read m.copies.items _ _ inside c.index_mut.ensures.value [] ∙ ap (λ k. get_or m.copies.items k []) place ∙ sym (page_of-copy m c.args.page.0 c.requires.page at) in
     let P = IsStore (ram_of m) c.args.page.0 c.args.index c.args.value in
     subst (λ (x : LentRam). One (past_of m) (past_of x) P)
-    (sym (with_copy-there m c.args.page.0 c.put_word.new.page m.room m.held c.note.new.self (c.note.ensures ∙ ap (with_event m.memory) c.doing-done.ensures) at c.in-Some.place place))
-    (one-write m c.args.page.0 c.put_word.new.page P (record {
+    (sym (with_copy-there m c.args.page.0 c.put_word.new.page 1 m.room m.held c.note.new.self (c.note.ensures ∙ ap (with_event m.memory) c.doing-done.ensures) at c.in-Some.place place))
+    (one-write m c.args.page.0 c.put_word.new.page 1 P (record {
       before = refl;
       after = ap (with_page (ram_of m) c.args.page.0) (c.put_word.ensures ∙ ap (λ (b : List ℕ). with_word b c.args.index c.args.value) value);
       none = refl;
       unread = refl;
+      words = refl;
+      loans = refl;
     }))
 
 pub returns-clause-ram : goal.returns-clause-ram
@@ -44,8 +46,8 @@ returns-clause-ram c =
     let m = c.args.self.now in
     let off = observed-no m c.args.page.0 (sym c.in_default.is ∙ c.place.ensures.value) in
     let word : List ℕ = with_word (page_of (memory_of m) c.args.page.0) c.args.index c.args.value in
-    ap ram_of (with_frame-there m c.args.page.0 word m.room m.held c.store.new.self (c.store.ensures ∙ ap (λ (e : Event). with_frame_bytes (with_event m.memory e) c.args.page.0 word) c.doing-done.ensures) off)
-    ∙ ram_of-written m c.args.page.0 word
+    ap ram_of (with_frame-there m c.args.page.0 word 1 m.room m.held c.store.new.self (c.store.ensures ∙ ap (λ (e : Event). with_frame_bytes (with_event m.memory e) c.args.page.0 word) c.doing-done.ensures) off)
+    ∙ ram_of-written m c.args.page.0 word 1
     ∙ ap (λ (b : List ℕ). with_page (ram_of m) c.args.page.0 (with_word b c.args.index c.args.value)) (sym (page_of-frame m c.args.page.0 c.requires.page off))
 
 pub returns-clause-steps : goal.returns-clause-steps
@@ -55,10 +57,12 @@ returns-clause-steps c =
     let word : List ℕ = with_word (page_of (memory_of m) c.args.page.0) c.args.index c.args.value in
     let P = IsStore (ram_of m) c.args.page.0 c.args.index c.args.value in
     subst (λ (x : LentRam). One (past_of m) (past_of x) P)
-    (sym (with_frame-there m c.args.page.0 word m.room m.held c.store.new.self (c.store.ensures ∙ ap (λ (e : Event). with_frame_bytes (with_event m.memory e) c.args.page.0 word) c.doing-done.ensures) off))
-    (one-write m c.args.page.0 word P (record {
+    (sym (with_frame-there m c.args.page.0 word 1 m.room m.held c.store.new.self (c.store.ensures ∙ ap (λ (e : Event). with_frame_bytes (with_event m.memory e) c.args.page.0 word) c.doing-done.ensures) off))
+    (one-write m c.args.page.0 word 1 P (record {
       before = refl;
       after = ap (λ (b : List ℕ). with_page (ram_of m) c.args.page.0 (with_word b c.args.index c.args.value)) (sym (page_of-frame m c.args.page.0 c.requires.page off));
       none = refl;
       unread = refl;
+      words = refl;
+      loans = refl;
     }))

@@ -1,8 +1,7 @@
 -- SPDX-License-Identifier: MIT OR Apache-2.0
-use Rattle.std.proofs.Common.{◌≡◌, ◌∙◌, ◌++◌, of_calls, Bool, List, Some, sym, ap}
+use Rattle.std.proofs.Common.{◌≡◌, ◌∙◌, ◌++◌, of_calls, Some, sym, ap}
 use Rattle.std.specs.Result.{result_err}
 use Rattle.arrayvec.specs.ArrayVec.{array_vec_len}
-use Rattle.ffa_model.specs.declared.refusal.Refusal.{Refusal}
 use Rattle.ffa_model.specs.MemorySend.{is_told_normal, record_guards, room_guards, transaction_from, world_guards}
 use Rattle.ffa_model.specs.SendDescriptor.{SendRecord, send_record}
 use Rattle.ffa_rxtx.specs.Parts.{ownership_in}

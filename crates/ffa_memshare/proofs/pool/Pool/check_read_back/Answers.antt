@@ -1,6 +1,6 @@
 -- SPDX-License-Identifier: MIT OR Apache-2.0
 use Rattle.std.proofs.Common.{◌≡◌, ◌∙◌, ℕ, List, Some, sym, ap}
-use Rattle.ffa_model.specs.DescriptorPlaces.{Versioned, in_version}
+use Rattle.ffa_model.specs.DescriptorPlaces.{in_version}
 use Rattle.ffa_model.specs.HypervisorRetrieve.{handle_alone}
 use Rattle.ffa_memshare.specs.Scenes.{descriptor_in}
 use Rattle.ffa_memshare.specs.Stored.{view_of}

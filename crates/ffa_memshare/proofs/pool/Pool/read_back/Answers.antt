@@ -1,16 +1,17 @@
 -- SPDX-License-Identifier: MIT OR Apache-2.0
-use Rattle.std.proofs.Common.{◌≡◌, ◌∙◌, ◌≤◌, ◌<◌, ◌^◌, ℕ, List, length, Some, sym, ap, subst, arith}
-use Rattle.std.specs.FinMap as finite
+use Rattle.std.proofs.Common.{◌∙◌, ◌≤◌, ◌<◌, ◌^◌, ℕ, List, length, sym, ap, subst, arith}
 use Rattle.arrayvec.specs.ArrayVec.{ArrayVec}
 use Rattle.ffa_model.specs.declared.limits.TheConstants.{MOST_RANGES}
 use Rattle.ffa_model.specs.declared.transaction.Range.{Range}
 use Rattle.ffa_model.specs.declared.transaction.Receiver.{Receiver}
 use Rattle.ffa_model.specs.Buffers.{buffers_in, is_full}
-use Rattle.ffa_model.specs.HypervisorRetrieve.{back_guards, handle_alone, sent_record}
+use Rattle.ffa_model.specs.HypervisorRetrieve.{back_guards, handle_alone}
 use Rattle.ffa_model.specs.ResponseBytes.{ResponseRecord, response_bytes, response_size}
 use Rattle.ffa_model.specs.SendDescriptor.{page_total}
 use Rattle.ffa_model.proofs.Guards.{answers-code}
 use Rattle.ffa_physmem.proofs.Moments.{Only-none}
+use Rattle.ffa_physmem.specs.Work.{loans_of}
+use Rattle.ffa_physmem.proofs.Work.{adds-none}
 use Rattle.ffa_rxtx.specs.Parts.{with_rx_bytes}
 use Rattle.ffa_memshare.specs.Retrieved.{IsToldBack}
 use Rattle.ffa_memshare.specs.Scenes.{descriptor_in}
@@ -65,3 +66,6 @@ returns-clause-done g c =
       was = asked-open slots slot h it (t, at) c.at-open.ensures.value c.at-open.ensures.open;
       told = subst (λ (k : ℕ). IsToldBack old new own version k (view_of it) c.deliver_sent.result) (same-handle slots slot h it (t, at) c.at-open.ensures.value) told;
     }
+
+pub returns-in_err-found-clause-few : goal.returns-in_err-found-clause-few
+returns-in_err-found-clause-few g c = adds-none (loans_of 1)

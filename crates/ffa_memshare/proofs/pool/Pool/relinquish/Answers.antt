@@ -1,5 +1,13 @@
 -- SPDX-License-Identifier: MIT OR Apache-2.0
-use Rattle.std.proofs.Common.{ℕ, None, subst, refl}
+use Rattle.std.proofs.Common.{◌≡◌, ◌∙◌, ℕ, List, None, ap, sym, subst, refl}
+use Rattle.std.proofs.lemmas.Option.{same_Some}
+use Rattle.std.specs.FinMap as finite
+use Rattle.ffa_model.specs.State.{Transaction}
+use Rattle.ffa_model.specs.declared.transaction.Range.{Range}
+use Rattle.ffa_model.specs.declared.descriptor.RelinquishDesc.{RelinquishDesc}
+use Rattle.ffa_physmem.specs.Work.{AddsAtMost}
+use Rattle.ffa_physmem.proofs.Work.{adds-none}
+use Rattle.ffa_memshare.specs.Work.{AreSplitsIn, taken_work}
 use Rattle.std.specs.Prelude.{Bool}
 use Rattle.arrayvec.specs.ArrayVec.{array_vec_len}
 use Rattle.ffa_model.specs.Buffers.{buffers_in}
@@ -10,7 +18,7 @@ use Rattle.ffa_model.proofs.Guards.{answers-code, answers-pass}
 use Rattle.ffa_rxtx.specs.Parts.{tx_in}
 use Rattle.ffa_memshare.specs.Changes.{IsMoved}
 use Rattle.ffa_memshare.specs.Ranges.{in_ranges}
-use Rattle.ffa_memshare.specs.Stored.{open_in, view_of}
+use Rattle.ffa_memshare.specs.Stored.{map_in, open_in, view_of}
 use Rattle.ffa_physmem.proofs.Moments.{Only-none}
 use Rattle.ffa_stage2.proofs.Moments.{nothing-ends}
 use Rattle.ffa_memshare.proofs.Asks.{asked-open, asked-slot}
@@ -62,3 +70,26 @@ pub change_pages-requires-clause-placed : goal.change_pages-requires-clause-plac
 change_pages-requires-clause-placed g c =
     let it = c.at-open.result.now in
     (c.requires.shared.each c.in_ok-found.found.slot it.handle (view_of it) c.at-open.ensures.value).placed
+
+pub returns-in_err-found-clause-few : goal.returns-in_err-found-clause-few
+returns-in_err-found-clause-few g c asked t access split described was built splits = adds-none (taken_work c.args.layout.now.base.0 split t.ranges asked.zero)
+
+pub returns-clause-few : goal.returns-clause-few
+returns-clause-few g c asked t access split described was built splits =
+    let base = c.args.layout.now.base.0 in
+    let slots = c.args.self.now.slots in
+    let found = c.in_ok-found.found in
+    let its = c.in_ok-found.ensures.found in
+    let it = c.at-open.result.now in
+    let old = g.M.PhysMem.past c.args.ram.now in
+    let new = g.M.PhysMem.past c.change_pages.new.ram in
+    let same : its.asked ≡ asked = same_Some its.asked asked (sym its.described ∙ described) in
+    let is : view_of it ≡ t = same_Some (view_of it) t
+    (sym (asked-open slots found.slot its.asked.handle it (its.transaction, its.slot) c.at-open.ensures.value c.at-open.ensures.open)
+    ∙ ap (λ (d : RelinquishDesc). finite.get (map_in slots) d.handle) same ∙ was) in
+    let ranges : it.ranges ≡ t.ranges = ap (λ (x : Transaction). x.ranges) is in
+    subst (λ (zero : Bool). AddsAtMost old new (taken_work base split t.ranges zero)) (its.zero ∙ ap (λ (d : RelinquishDesc). d.zero) same)
+    (subst (λ (rs : List Range). AddsAtMost old new (taken_work base split rs found.zero)) ranges
+    (c.change_pages.ensures.taken access split refl built
+    (subst (λ (rs : List Range). AreSplitsIn (access c.place-index.result) (in_ranges base rs) None split) (sym ranges)
+    (subst (λ (k : ℕ). AreSplitsIn (access k) (in_ranges base t.ranges) None split) (sym c.place-index.ensures) splits))))

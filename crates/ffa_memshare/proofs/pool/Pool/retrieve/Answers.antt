@@ -1,5 +1,15 @@
 -- SPDX-License-Identifier: MIT OR Apache-2.0
-use Rattle.std.proofs.Common.{◌∙◌, ℕ, refl, ap, sym, subst}
+use Rattle.std.proofs.Common.{◌≡◌, ◌∙◌, ℕ, List, Some, refl, ap, sym, subst}
+use Rattle.std.proofs.lemmas.Option.{same_Some}
+use Rattle.std.specs.FinMap as finite
+use Rattle.ffa_model.specs.Identifiers.{place}
+use Rattle.ffa_model.specs.declared.descriptor.RetrieveDesc.{RetrieveDesc}
+use Rattle.ffa_model.specs.declared.rights.Rights.{Rights}
+use Rattle.ffa_model.specs.declared.transaction.Range.{Range}
+use Rattle.ffa_physmem.specs.Work.{AddsAtMost}
+use Rattle.ffa_physmem.proofs.Work.{adds-none}
+use Rattle.ffa_memshare.specs.Ranges.{in_ranges}
+use Rattle.ffa_memshare.specs.Work.{LosesNone, retrieved_work}
 use Rattle.ffa_rxtx.specs.Parts.{ownership_in}
 use Rattle.ffa_model.specs.Buffers.{buffers_in}
 use Rattle.ffa_model.specs.MemoryRetrieve.{response_to, retrieve_guards, right_for}
@@ -9,7 +19,7 @@ use Rattle.ffa_model.proofs.Guards.{answers-code, answers-pass}
 use Rattle.ffa_memshare.specs.Memory.{memory_of, memory_parts}
 use Rattle.ffa_memshare.specs.Retrieved.{IsResponded}
 use Rattle.ffa_memshare.specs.Scenes.{descriptor_in, scene_in}
-use Rattle.ffa_memshare.specs.Stored.{view_of}
+use Rattle.ffa_memshare.specs.Stored.{map_in, view_of}
 use Rattle.ffa_physmem.proofs.Moments.{Only-none}
 use Rattle.ffa_stage2.proofs.Moments.{nothing-ends}
 use Rattle.ffa_memshare.proofs.Asks.{asked-open, asked-slot, same-handle, same-open, shared-placed}
@@ -91,3 +101,31 @@ returns-clause-ended g c rx_apart =
 
 pub returns-in_err-found-clause-ended : goal.returns-in_err-found-clause-ended
 returns-in_err-found-clause-ended g c rx_apart = nothing-ends _ _ _ _ _ (g.M.PhysMem.past c.args.ram.now) refl
+
+pub returns-in_err-found-clause-few : goal.returns-in_err-found-clause-few
+returns-in_err-found-clause-few g c asked t access described was built loses =
+    adds-none (retrieved_work c.args.layout.now.base.0 (right_for (ownership_in c.args.pages.now c.args.layout.now.base.0) t c.args.caller.0 asked) t.ranges)
+
+pub returns-clause-few : goal.returns-clause-few
+returns-clause-few g c asked t access described was built loses =
+    let base = c.args.layout.now.base.0 in
+    let slots = c.args.self.now.slots in
+    let found = c.in_ok-found.found in
+    let its = c.in_ok-found.ensures.found in
+    let it = c.at-open.result.now in
+    let owners = ownership_in c.args.pages.now base in
+    let old = g.M.PhysMem.past c.args.ram.now in
+    let new = g.M.PhysMem.past c.hand_over-size.new.ram in
+    let same : its.asked ≡ asked = same_Some its.asked asked (sym its.described ∙ described) in
+    let is : view_of it ≡ t = same_Some (view_of it) t
+    (sym (asked-open slots found.slot its.asked.handle it (its.transaction, its.slot) c.at-open.ensures.value c.at-open.ensures.open)
+    ∙ ap (λ (d : RetrieveDesc). finite.get (map_in slots) d.handle) same ∙ was) in
+    let one : view_of it ≡ its.transaction = same-open slots found.slot its.asked.handle its.transaction it its.slot c.at-open.ensures.value in
+    let right : found.right ≡ right_for owners t c.args.caller.0 asked =
+    its.right ∙ (λ j. right_for owners ((sym one ∙ is) j) c.args.caller.0 (same j)) in
+    let ranges : it.ranges ≡ t.ranges = ap (λ (x : Transaction). x.ranges) is in
+    subst (λ (r : Rights). AddsAtMost old new (retrieved_work base r t.ranges)) right
+    (subst (λ (rs : List Range). AddsAtMost old new (retrieved_work base found.right rs)) ranges
+    (c.hand_over-size.ensures.few access built
+    (subst (λ (rs : List Range). LosesNone (access (place c.args.caller.0)) (in_ranges base rs) (λ _. Some found.right)) (sym ranges)
+    (subst (λ (r : Rights). LosesNone (access (place c.args.caller.0)) (in_ranges base t.ranges) (λ _. Some r)) (sym right) loses))))

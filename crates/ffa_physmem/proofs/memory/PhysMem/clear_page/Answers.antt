@@ -7,3 +7,6 @@ returns-clause-ram g c = search rules
 
 pub returns-clause-steps : goal.returns-clause-steps
 returns-clause-steps g c = g.met.Self.PhysMem.in_loan c.args.self.now c.args.page.0 _
+
+pub returns-clause-spent : goal.returns-clause-spent
+returns-clause-spent g c = g.met.Self.PhysMem.one_loan c.args.self.now c.args.page.0 _

@@ -3,7 +3,7 @@ use Rattle.std.proofs.Common.{◌≡◌, ◌∙◌, List, ℕ, refl, ap}
 use Rattle.ffa_model.specs.Ram.{Ram, page_of, with_page, with_word}
 use Rattle.ffa_physmem.specs.Moments.{IsStore}
 use Rattle.ffa_recorded.specs.Loans.{noted_in}
-use Rattle.ffa_recorded.specs.declared.recorded.Noted.TheVariants.{Written}
+use Rattle.ffa_recorded.specs.declared.recorded.Noted.TheVariants.{Stored}
 use Rattle.ffa_recorded.proofs.Records.{page-back, recorded-step}
 use Rattle.ffa_recorded.proofs.recorded.RecordedPhysMem.write_word.Goals as goal
 
@@ -19,5 +19,5 @@ returns-clause-steps c =
     let back : with_page new page bytes ≡ old =
     ap (λ (r : Ram). with_page r page bytes) wrote ∙ ap (with_page (with_page old page (with_word (page_of old page) c.args.index c.args.value)) page) c.page-bytes.ensures.value
     ∙ page-back old page (with_word (page_of old page) c.args.index c.args.value) in
-    recorded-step old new (noted_in m) (noted_in c.note.new.self) (Written (record { page = c.args.page; bytes = bytes })) (λ s. IsStore old page c.args.index c.args.value s)
-    back (record { before = back; after = wrote; none = refl; unread = refl }) m.is_kept c.note.new.self.is_kept c.note.ensures.kept c.note.ensures.noted
+    recorded-step old new (noted_in m) (noted_in c.note.new.self) (Stored (record { page = c.args.page; bytes = bytes })) (λ s. IsStore old page c.args.index c.args.value s)
+    back (record { before = back; after = wrote; none = refl; unread = refl; words = refl; loans = refl }) m.is_kept c.note.new.self.is_kept c.note.ensures.kept c.note.ensures.noted

@@ -5,6 +5,8 @@ use Rattle.ffa_model.specs.State.{Buffers}
 use Rattle.ffa_rxtx.specs.Parts.{IsInRam, with_rx_bytes}
 use Rattle.ffa_rxtx.specs.Stored.{buffers_of}
 use Rattle.ffa_physmem.proofs.Moments.{Only-map}
+use Rattle.ffa_physmem.proofs.Work.{spends-adds, adds-none}
+use Rattle.ffa_physmem.specs.Work.{loans_of}
 use Rattle.ffa_rxtx.proofs.Moments.{rx-loan}
 use Rattle.ffa_rxtx.proofs.Runs.{short-run}
 use Rattle.ffa_rxtx.proofs.buffers.Buffers.fill.Goals as goal
@@ -24,3 +26,6 @@ pub returns-in-Some-clause-steps : goal.returns-in-Some-clause-steps
 returns-in-Some-clause-steps g c =
     Only-map (g.met.M.PhysMem.in_loan c.args.ram.now c.in-Some.mapped.rx.0 c.put_front.new.target)
     (λ _ s loan. rx-loan (g.M.PhysMem.ram c.args.ram.now) _ (buffers_of c.in-Some.mapped) c.in-Some.ensures c.requires.rx s loan)
+
+pub returns-in-Some-clause-few : goal.returns-in-Some-clause-few
+returns-in-Some-clause-few g c = spends-adds (g.met.M.PhysMem.one_loan c.args.ram.now c.in-Some.mapped.rx.0 c.put_front.new.target)

@@ -27,5 +27,5 @@ returns-in-Call g c =
           (subst (λ (seen : Snapshot). IsDone seen (Call c.in-Call.x) c.call.new.outcome new) c.self.view_is
           (called old new c.in-Call.x was c.holds-in-Call.ensures c.call.ensures.state c.call.ensures.moments changed forgot c.call.new.outcome c.call.ensures.outcome
           (λ its i. snapshot_of (c.call.ensures.refused its i) (c.call.ensures.unchanged its i) (c.call.ensures.untold its i))
-          c.call.ensures.unowned news silent));
+          c.call.ensures.unowned news silent c.call.ensures.few));
     }

@@ -43,4 +43,4 @@ returns g c =
     subst (λ (seen : Snapshot). IsDone seen op c.store.result c.fill.new.self) c.self.view_is
     (access-done old n.state n.ram n.past op c.args.addr refl was c.store.ensures.state c.fill.new.self c.holds-3.ensures c.store.result c.fill.ensures
     c.store.ensures.outcome (λ its i. snapshot_of (c.store.ensures.refused its i) old.held old.told)
-    c.store.ensures.unowned c.store.ensures.moments)
+    c.store.ensures.unowned c.store.ensures.moments c.store.ensures.few)

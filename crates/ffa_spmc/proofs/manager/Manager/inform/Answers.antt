@@ -5,6 +5,8 @@ use Rattle.ffa_model.specs.Buffers.{buffers_with_rx}
 use Rattle.ffa_model.specs.Ram.{Ram}
 use Rattle.ffa_model.specs.Setup.{told_info_size, uuid_bytes}
 use Rattle.ffa_model.specs.State.{Buffers, version_of}
+use Rattle.ffa_physmem.specs.Work.{AddsAtMost, loans_of}
+use Rattle.ffa_physmem.proofs.Work.{adds-none}
 use Rattle.ffa_spmc.specs.Meaning.{HasTables, IsManager, access_by_place, state_of}
 use Rattle.ffa_spmc.proofs.Fills.{known-buffered, runner-there, rx-in-ram, tables-still}
 use Rattle.ffa_spmc.proofs.Information.{info-reply, informed-own, machine-informed, state-informed}
@@ -76,3 +78,9 @@ returns-clause-moments g c =
 
 pub returns-then-is_count_alone-clause-moments : goal.returns-then-is_count_alone-clause-moments
 returns-then-is_count_alone-clause-moments g c = no-moments c.args.self.now.state c.args.self.now.ram c.args.self.now.past
+
+pub returns-clause-few : goal.returns-clause-few
+returns-clause-few g c = subst (λ (seen : Managed). AddsAtMost seen.past (g.M.PhysMem.past c.fill.new.ram) (loans_of 1)) c.self.view_is c.fill.ensures.few
+
+pub returns-then-is_count_alone-clause-few : goal.returns-then-is_count_alone-clause-few
+returns-then-is_count_alone-clause-few g c = adds-none (loans_of 1)

@@ -1,21 +1,23 @@
 -- SPDX-License-Identifier: MIT OR Apache-2.0
-use Rattle.std.proofs.Common.{◌≡◌, ◌∙◌, Result, Err, sym, ap, subst}
+use Rattle.std.proofs.Common.{◌≡◌, ◌∙◌, ◌+◌, ◌/◌, List, ℕ, Result, Err, sym, ap, subst}
 use Rattle.std.specs.Prelude.{OnErr}
 use Rattle.std.proofs.lemmas.Bool.{true≢false}
 use Rattle.ffa_model.specs.declared.call.Call.TheVariants.{MsgSend2}
 use Rattle.ffa_model.specs.Calls.{Stepped, replied, served}
-use Rattle.ffa_model.specs.Messages.{msg_send2}
+use Rattle.ffa_model.specs.Messages.{msg_send2, header_in}
 use Rattle.ffa_model.specs.Refusals.{is_error}
 use Rattle.ffa_model.specs.declared.operation.ErrorCode.{ErrorCode}
 use Rattle.ffa_spmc.specs.Moments.{AreMoments}
 use Rattle.ffa_spmc.proofs.Moments.{rx-moments, still-moments}
 use Rattle.ffa_spmc.proofs.Replied.{managed_of}
+use Rattle.ffa_physmem.specs.Work.{AddsAtMost, loans_of}
+use Rattle.ffa_spmc.specs.Work.{message_pages}
+use Rattle.ffa_spmc.proofs.Sends.{sent-is, buffers-in-ram, ends-apart, receiver-there, tables-kept, send-unowned, sent, tables-sent, told-known, unsent, unsent-parts}
 use Rattle.ffa_spmc.specs.Meaning.{IsManager, Parts, state_of}
 use Rattle.ffa_spmc.specs.Managed.{Managed}
 use Rattle.ffa_spmc.specs.Unowned.{KeepsUnowned}
 use Rattle.ffa_spmc.proofs.Machines.{machine-served}
 use Rattle.ffa_spmc.proofs.Notified.{known-notified}
-use Rattle.ffa_spmc.proofs.Sends.{buffers-in-ram, ends-apart, receiver-there, tables-kept, send-unowned, sent, tables-sent, told-known, unsent, unsent-parts}
 use Rattle.ffa_spmc.proofs.Fills.{known-buffered, runner-there}
 use Rattle.ffa_spmc.proofs.Inside.{parts_of}
 use Rattle.ffa_spmc.proofs.manager.Manager.msg_send2.Goals.{in-Ok, in-Err}
@@ -92,5 +94,15 @@ returns g c =
             | in-Err w ↦ subst (λ inside. AreMoments c.args.self.now.state c.args.self.now.ram (g.M.PhysMem.ram inside.ram) c.args.self.now.past (g.M.PhysMem.past inside.ram)) (sym w.self-inside-is)
                 (subst (λ (seen : Managed). AreMoments seen.state seen.ram new seen.past later) c.self.view_is
                 (still-moments (state_of x) x.ram new _ later (unsent-past w.in-Err.code w.in-Err.is c.send2.ensures.kept_ram) (unsent-past w.in-Err.code w.in-Err.is c.send2.ensures.kept_past)))
+          ];
+      few =
+          let x = parts_of g.M.PhysMem.ram c.self.inside in
+          let later = g.M.PhysMem.past c.send2.new.ram in
+          let sent = subst (λ (seen : Managed). AddsAtMost seen.past later (loans_of (message_pages seen.state))) c.self.view_is
+          (subst (λ (bytes : List ℕ). AddsAtMost (g.M.PhysMem.past c.self.inside.ram) later (loans_of (((header_in bytes).offset + (header_in bytes).size + 4095) / 4096)))
+          (λ i. sent-is x c.self.invariant c.runner-runner.result.0 c.runner-runner.ensures.runner i) c.send2.ensures.few) in
+          elim c.match-send2.branch [
+            | in-Ok w ↦ subst (λ inside. AddsAtMost c.args.self.now.past (g.M.PhysMem.past inside.ram) (loans_of (message_pages c.args.self.now.state))) (sym w.self-inside-is) sent
+            | in-Err w ↦ subst (λ inside. AddsAtMost c.args.self.now.past (g.M.PhysMem.past inside.ram) (loans_of (message_pages c.args.self.now.state))) (sym w.self-inside-is) sent
           ];
     }

@@ -1,5 +1,7 @@
 -- SPDX-License-Identifier: MIT OR Apache-2.0
 use Rattle.ffa_model.specs.MemoryReturn.{memory_reclaim}
+use Rattle.ffa_model.specs.declared.call.Call.TheVariants.{MemReclaim}
+use Rattle.ffa_spmc.specs.Work.{call_work}
 use Rattle.ffa_spmc.specs.Meaning.{Parts}
 use Rattle.ffa_spmc.proofs.Answered.{done-so}
 use Rattle.ffa_spmc.proofs.Replied.{told-of, told-with, kept-memory}
@@ -7,7 +9,7 @@ use Rattle.ffa_model.specs.State.{State}
 use Rattle.ffa_spmc.proofs.Inside.{parts_of}
 use Rattle.ffa_spmc.proofs.Moments.{moments-of}
 use Rattle.ffa_spmc.proofs.Pools.{pool-shared}
-use Rattle.ffa_spmc.proofs.Reclaims.{reclaim-changes, reclaim-machine, reclaim-served, reclaim-unowned}
+use Rattle.ffa_spmc.proofs.Reclaims.{reclaim-changes, reclaim-few, reclaim-machine, reclaim-served, reclaim-unowned}
 use Rattle.ffa_spmc.proofs.manager.Manager.pool_reclaim.Goals as goal
 
 pub reclaim-requires : goal.reclaim-requires
@@ -44,7 +46,13 @@ returns-clause-done g c =
     (reclaim-changes x c.self.invariant c.runner-runner.result.0 c.runner-runner.ensures.runner c.args.handle.0 c.args.flags
     (g.M.PhysMem.ram c.reclaim.new.ram) c.reclaim.new.pages c.reclaim.new.self c.reclaim.result c.reclaim.new.news c.reclaim.ensures.refusal
     c.reclaim.ensures.kept c.reclaim.ensures.kept_pages c.reclaim.ensures.kept_ram c.reclaim.ensures.nothing
-    c.reclaim.ensures.slot c.reclaim.ensures.open_transactions c.reclaim.ensures.ram c.reclaim.ensures.pages c.reclaim.ensures.changed))
+    c.reclaim.ensures.slot c.reclaim.ensures.open_transactions c.reclaim.ensures.ram c.reclaim.ensures.pages c.reclaim.ensures.changed)
+    (λ (s : State). call_work s (MemReclaim c.args.handle c.args.flags))
+    (reclaim-few x c.self.invariant c.runner-runner.result.0 c.runner-runner.ensures.runner c.args.handle.0 c.args.flags
+    (g.M.PhysMem.ram c.reclaim.new.ram) c.reclaim.new.pages c.reclaim.new.self c.reclaim.result c.reclaim.new.news c.reclaim.ensures.refusal
+    c.reclaim.ensures.kept c.reclaim.ensures.kept_pages c.reclaim.ensures.kept_ram c.reclaim.ensures.nothing
+    c.reclaim.ensures.slot c.reclaim.ensures.open_transactions c.reclaim.ensures.ram c.reclaim.ensures.pages c.reclaim.ensures.changed
+    _ (g.M.PhysMem.past c.reclaim.new.ram) c.reclaim.ensures.kept_past c.reclaim.ensures.few))
 
 pub returns-clause-told : goal.returns-clause-told
 returns-clause-told g c =

@@ -1,5 +1,6 @@
 -- SPDX-License-Identifier: MIT OR Apache-2.0
-use Rattle.ffa_model.specs.MemoryReturn.{memory_relinquish}
+use Rattle.ffa_model.specs.MemoryReturn.{memory_relinquish, relinquish_read}
+use Rattle.ffa_spmc.specs.Work.{relinquish_work}
 use Rattle.ffa_spmc.specs.Meaning.{Parts}
 use Rattle.ffa_spmc.proofs.Fills.{caller-is}
 use Rattle.ffa_spmc.proofs.Answered.{done-so, refused-both}
@@ -8,7 +9,7 @@ use Rattle.ffa_model.specs.State.{State}
 use Rattle.ffa_spmc.proofs.Inside.{parts_of}
 use Rattle.ffa_spmc.proofs.Moments.{moments-of}
 use Rattle.ffa_spmc.proofs.Pools.{pool-shared}
-use Rattle.ffa_spmc.proofs.Relinquishes.{relinquish-changes, relinquish-machine, relinquish-served, relinquish-unowned}
+use Rattle.ffa_spmc.proofs.Relinquishes.{relinquish-changes, relinquish-few, relinquish-machine, relinquish-served, relinquish-unowned}
 use Rattle.ffa_spmc.proofs.manager.Manager.pool_relinquish.Goals as goal
 
 pub relinquish-requires-clause-shared : goal.relinquish-requires-clause-shared
@@ -41,7 +42,11 @@ returns-clause-done g c =
     c.relinquish.result c.relinquish.new.news c.relinquish.ensures.refusal c.relinquish.ensures.kept c.relinquish.ensures.kept_ram c.relinquish.ensures.nothing c.relinquish.ensures.done)
     (moments-of x c.self.invariant (g.M.PhysMem.ram c.relinquish.new.ram) _ _ (g.met.M.PhysMem.in_turn c.relinquish.new.ram) c.relinquish.ensures.steps c.relinquish.ensures.ended)
     (relinquish-changes x c.self.invariant c.runner-runner.result.0 c.runner-runner.ensures.runner (g.M.PhysMem.ram c.relinquish.new.ram) c.relinquish.new.self
-    c.relinquish.result c.relinquish.new.news c.relinquish.ensures.refusal c.relinquish.ensures.kept c.relinquish.ensures.kept_ram c.relinquish.ensures.nothing c.relinquish.ensures.done))
+    c.relinquish.result c.relinquish.new.news c.relinquish.ensures.refusal c.relinquish.ensures.kept c.relinquish.ensures.kept_ram c.relinquish.ensures.nothing c.relinquish.ensures.done)
+    (λ (s : State). relinquish_work s (relinquish_read s))
+    (relinquish-few x c.self.invariant c.runner-runner.result.0 c.runner-runner.ensures.runner (g.M.PhysMem.ram c.relinquish.new.ram) c.relinquish.new.self
+    c.relinquish.result c.relinquish.new.news c.relinquish.ensures.refusal c.relinquish.ensures.kept c.relinquish.ensures.kept_ram c.relinquish.ensures.nothing c.relinquish.ensures.done
+    _ (g.M.PhysMem.past c.relinquish.new.ram) c.relinquish.ensures.kept_past c.relinquish.ensures.few))
 
 pub returns-clause-told : goal.returns-clause-told
 returns-clause-told g c =

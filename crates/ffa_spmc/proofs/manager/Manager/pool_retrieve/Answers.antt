@@ -1,8 +1,9 @@
 -- SPDX-License-Identifier: MIT OR Apache-2.0
 use Rattle.std.proofs.Common.{◌∙◌, refl, sym, ap}
 use Rattle.ffa_model.specs.State.{version_of, State}
-use Rattle.ffa_model.specs.MemoryRetrieve.{receiver_retrieve}
+use Rattle.ffa_model.specs.MemoryRetrieve.{receiver_retrieve, retrieve_read}
 use Rattle.ffa_model.specs.HypervisorRetrieve.{asks_back}
+use Rattle.ffa_spmc.specs.Work.{retrieve_work}
 use Rattle.ffa_spmc.specs.Meaning.{Parts}
 use Rattle.ffa_spmc.specs.Managed.{Managed}
 use Rattle.ffa_spmc.proofs.Answered.{done-with}
@@ -13,7 +14,7 @@ use Rattle.ffa_memshare.specs.declared.descriptor_call.DescriptorCall.{Descripto
 use Rattle.ffa_spmc.proofs.Inside.{parts_of}
 use Rattle.ffa_spmc.proofs.Pools.{pool-shared}
 use Rattle.ffa_spmc.proofs.Versions.{ffa-is}
-use Rattle.ffa_spmc.proofs.Retrieves.{retrieve-changes, retrieve-machine, retrieve-served, retrieve-unowned}
+use Rattle.ffa_spmc.proofs.Retrieves.{retrieve-changes, retrieve-few, retrieve-machine, retrieve-served, retrieve-unowned}
 use Rattle.ffa_spmc.proofs.manager.Manager.pool_retrieve.Goals as goal
 
 pub retrieve-requires-clause-shared : goal.retrieve-requires-clause-shared
@@ -61,7 +62,13 @@ returns-clause-done g c =
     (retrieve-changes x c.self.invariant c.runner-runner.result c.runner-runner.ensures.runner its (sym (ffa-is x)) (c.version-version.ensures ∙ sym (ap (λ (seen : Managed). version_of seen.state seen.state.runner) c.self.view_is)) own
     (g.M.PhysMem.ram c.retrieve.new.ram) c.retrieve.new.pages c.retrieve.new.self c.retrieve.new.buffers
     c.retrieve.result c.retrieve.new.news c.retrieve.ensures.refusal c.retrieve.ensures.kept c.retrieve.ensures.kept_pages c.retrieve.ensures.kept_buffers c.retrieve.ensures.kept_ram
-    c.retrieve.ensures.full c.retrieve.ensures.done))
+    c.retrieve.ensures.full c.retrieve.ensures.done)
+    (λ (s : State). retrieve_work s (retrieve_read s c.args.transfer.total))
+    (retrieve-few x c.self.invariant c.runner-runner.result c.runner-runner.ensures.runner its (sym (ffa-is x)) (c.version-version.ensures ∙ sym (ap (λ (seen : Managed). version_of seen.state seen.state.runner) c.self.view_is)) own
+    (g.M.PhysMem.ram c.retrieve.new.ram) c.retrieve.new.pages c.retrieve.new.self c.retrieve.new.buffers
+    c.retrieve.result c.retrieve.new.news c.retrieve.ensures.refusal c.retrieve.ensures.kept c.retrieve.ensures.kept_pages c.retrieve.ensures.kept_buffers c.retrieve.ensures.kept_ram
+    c.retrieve.ensures.full c.retrieve.ensures.done
+    _ (g.M.PhysMem.past c.retrieve.new.ram) c.retrieve.ensures.kept_past c.retrieve.ensures.few))
 
 pub returns-clause-told : goal.returns-clause-told
 returns-clause-told g c =

@@ -5,6 +5,7 @@ use Rattle.ffa_model.specs.Calls.{replied}
 use Rattle.ffa_model.specs.HypervisorRetrieve.{asks_back, hypervisor_retrieve}
 use Rattle.ffa_model.specs.State.{State}
 use Rattle.ffa_spmc.specs.Managed.{Managed}
+use Rattle.ffa_physmem.specs.Work.{loans_of}
 use Rattle.ffa_spmc.specs.Meaning.{Parts, state_of}
 use Rattle.ffa_spmc.specs.Replies.{reply_of}
 use Rattle.ffa_spmc.proofs.Fills.{caller-is, runner-there}
@@ -72,3 +73,4 @@ returns g c =
     (back-tables x c.self.invariant c.runner-runner.result c.runner-runner.ensures.runner c.descriptor_call-call.result c.args.transfer call back new c.read_back-told.new.buffers r
     c.read_back-told.ensures.refusal c.read_back-told.ensures.kept_buffers c.read_back-told.ensures.kept_ram c.read_back-told.ensures.full c.read_back-told.ensures.done)
     _ later (g.met.M.PhysMem.in_turn c.read_back-told.new.ram) c.read_back-told.ensures.steps)
+    (λ _. loans_of 1) c.read_back-told.ensures.few

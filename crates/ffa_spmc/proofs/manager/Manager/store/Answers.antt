@@ -1,5 +1,7 @@
 -- SPDX-License-Identifier: MIT OR Apache-2.0
-use Rattle.std.proofs.Common.{◌∙◌, sym, Ok, Err}
+use Rattle.std.proofs.Common.{◌∙◌, subst, sym, Ok, Err}
+use Rattle.ffa_physmem.specs.Work.{AddsAtMost, loans_of}
+use Rattle.ffa_spmc.specs.Managed.{Managed}
 use Rattle.ffa_spmc.proofs.Accesses.{answer-stored, machine-stored, moments-stored, offset-kept, state-stored, unowned-stored}
 use Rattle.ffa_spmc.proofs.Inside.{parts_of}
 use Rattle.ffa_spmc.proofs.manager.Manager.store.Goals as goal
@@ -45,3 +47,6 @@ returns-clause-moments g c =
     let x = parts_of g.M.PhysMem.ram c.self.inside in
     moments-stored x c.self.invariant c.args.self.now c.self.view_is c.args.addr c.args.walked c.requires
     c.args.size c.args.value (g.M.PhysMem.ram c.store_at.new.memory) c.store_at.ensures.stored (g.M.PhysMem.past c.store_at.new.memory) (g.met.M.PhysMem.in_turn c.store_at.new.memory) c.store_at.ensures.steps
+
+pub returns-clause-few : goal.returns-clause-few
+returns-clause-few g c = subst (λ (seen : Managed). AddsAtMost seen.past (g.M.PhysMem.past c.store_at.new.memory) (loans_of 1)) c.self.view_is c.store_at.ensures.few

@@ -1,9 +1,12 @@
 -- SPDX-License-Identifier: MIT OR Apache-2.0
-use Rattle.std.proofs.Common.{◌≡◌, ◌∙◌, sym, ap, rules}
+use Rattle.std.proofs.Common.{◌≡◌, ◌∙◌, sym, ap, subst, rules}
 use Rattle.ffa_model.specs.declared.call.Call.TheVariants.{MsgWait}
 use Rattle.ffa_model.specs.RunStates.{keeps_rx}
 use Rattle.ffa_model.specs.State.{version_of}
 use Rattle.ffa_spmc.specs.Managed.{Managed}
+use Rattle.ffa_physmem.specs.Work.{AddsAtMost, no_work}
+use Rattle.ffa_physmem.specs.Moments.{Past}
+use Rattle.ffa_physmem.proofs.Work.{adds-none}
 use Rattle.ffa_spmc.proofs.manager.Manager.wait_without_rx.Goals.{then-is_ok, else-is_ok}
 use Rattle.ffa_spmc.proofs.Moments.{still-moments}
 use Rattle.ffa_spmc.proofs.Fills.{known-buffered, runner-there}
@@ -41,4 +44,5 @@ returns g c =
       refused = search rules;
       unowned = search rules;
       moments = still-moments now.state now.ram c.if-is_ok.self.ram now.past c.if-is_ok.self.past kept later;
+      few = subst (λ (l : Past). AddsAtMost now.past l no_work) (sym later) (adds-none no_work);
     }

@@ -1,0 +1,135 @@
+// SPDX-License-Identifier: MIT OR Apache-2.0
+//! The steps that calls on memory take, beside the bound that the definitions give: they lie within it, and it is at most twice as many.
+use super::memory::{MAPPED, TO_FIRST, TO_SECOND};
+use super::*;
+use crate::checks::holds_at;
+use ffa_manifest::{ManifestError, of_parts};
+use ffa_model::{Ffa, MOST_RANGES, PageNo};
+use ffa_physmem::FlatRam;
+use ffa_reasons::Explained;
+use ffa_recorded::Recorded;
+use ffa_spmc::Machine;
+use fixtures::writable;
+use std::fmt::Write;
+
+// For how many steps there is room from the beginning: a boot clears 16,384 pages, and the lend stores as many words.
+const ROOM: usize = 40960;
+
+// The blocks of RAM. The first partition has half of the first one, page by page, and each other one whole.
+const BLOCKS: u32 = 32;
+
+// The header of the lend and its one receiver.
+const LEND: &str = "\
+store 4002E000 0000000000008001 -> done
+store 4002E018 0000000100000010 -> done
+store 4002E020 0000000000000030 -> done
+store 4002E030 0000004000028002 -> done
+store 4002E040 0000004000000040 -> done
+";
+
+const RETRIEVE: &str = "\
+store 4003E000 0000000000008001 -> done
+store 4003E008 0000800100000001 -> done
+store 4003E018 0000000100000010 -> done
+store 4003E020 0000000000000030 -> done
+store 4003E030 0000000000028002 -> done
+call 84000074 40 40 -> 8002: 84000075 450 450
+call 84000065 -> 8002: 84000061
+store 4003E000 0000800100000001 -> done
+store 4003E008 0000000100000001 -> done
+store 4003E010 8002 -> done
+";
+
+// The machine of the rows with so many blocks, and its tables after the regions of the rows.
+fn many_blocks() -> Result<Manifest, ManifestError> {
+    let mut endpoints = row_machine().endpoints;
+    if let Some(endpoint) = endpoints.get_mut(1) {
+        let region = writable(0x4010_0000, 256 + 512 * (BLOCKS - 1));
+        let _ = endpoint.regions.try_push(region);
+    }
+    of_parts(0x4000_0000, BLOCKS, PageNo(64), endpoints, Ffa::V1_1)
+}
+
+// How many steps were recorded; none where the record has ended.
+fn recorded(player: &Player<Explained<Recorded>>) -> usize {
+    player.machine().0.ram().steps().unwrap_or(0)
+}
+
+// A call takes at most so many steps, and at least half of them.
+fn is_within(
+    rt: &impl Abort,
+    alloc: Global,
+    player: &mut Player<Explained<Recorded>>,
+    call: &str,
+    bound: usize,
+) -> Result<(), Fail> {
+    let before = recorded(player);
+    goes_on(rt, alloc, player, call)?;
+    let steps = recorded(player).saturating_sub(before);
+    holds_at(rt, steps <= bound, &call);
+    holds_at(rt, bound <= 2 * steps, &call);
+    Ok(())
+}
+
+// The address of the page that a range has: the first 31 ranges are in a block each, and the others in the first block.
+fn address_of(range: u32) -> u32 {
+    if range < BLOCKS - 1 {
+        return 0x4020_0000 + 0x20_0000 * range + 0x5000;
+    }
+    0x4010_0000 + 0x2000 * (range - (BLOCKS - 1))
+}
+
+// The lines that store the ranges of the lend.
+fn ranges(alloc: Global) -> Result<String, Fail> {
+    let mut lines = String::new(alloc);
+    for range in 0..MOST_RANGES as u32 {
+        let place = 0x4002_E050 + 16 * range;
+        let address = address_of(range);
+        writeln!(lines, "store {place:08X} {address:016X} -> done")?;
+        let pages = place + 8;
+        writeln!(lines, "store {pages:08X} 0000000000000001 -> done")?;
+    }
+    Ok(lines)
+}
+
+// A lend of the most ranges splits 31 blocks, a relinquish writes zeros, and a reclaim joins the blocks again.
+#[test]
+fn calls_take_half_of_the_bound_at_least(rt: HostRuntime) -> Result<(), Fail> {
+    let alloc = rt.alloc();
+    let manifest = many_blocks()?;
+    let ram = FlatRam::new(alloc, manifest.ram_base, 512 * manifest.ram_blocks)?;
+    let ram = Recorded::new(alloc, ram, ROOM)?;
+    let mut player = Player::new(Explained(Machine::boot_with(&manifest, ram, NoTlb)));
+    goes_on(&rt, alloc, &mut player, MAPPED)?;
+    goes_on(&rt, alloc, &mut player, LEND)?;
+    goes_on(&rt, alloc, &mut player, ranges(alloc)?.as_str())?;
+    // For each range a word for its page, two words and a settle for its block, and a settle; and for each of 31 blocks 516 words and two
+    // settles.
+    is_within(
+        &rt,
+        alloc,
+        &mut player,
+        "call 84000072 450 450 -> 8001: 84000061 0 1 8001\n",
+        64 * 5 + 31 * 518,
+    )?;
+    goes_on(&rt, alloc, &mut player, TO_SECOND)?;
+    goes_on(&rt, alloc, &mut player, RETRIEVE)?;
+    // The same for each range, without blocks that are split, and a loan for its page.
+    is_within(
+        &rt,
+        alloc,
+        &mut player,
+        "call 84000076 -> 8002: 84000061\n",
+        64 * 6,
+    )?;
+    goes_on(&rt, alloc, &mut player, TO_FIRST)?;
+    // No range is settled.
+    is_within(
+        &rt,
+        alloc,
+        &mut player,
+        "call 84000077 1 8001 0 -> 8001: 84000061\n",
+        64 * 4,
+    )?;
+    Ok(())
+}
