@@ -2,7 +2,7 @@
 # Each target runs a script. `make` prints them, with the lines below that begin with two number signs. All targets except `help` need the
 # toolchain's rt on your path. If a script needs more, it says so.
 
-.PHONY: help test quick gate prove wrong c rust python board linux secure docs page bench
+.PHONY: help test quick gate prove wrong c rust python board linux secure optee uboot docs page bench
 
 ## Print these lines
 help:
@@ -57,6 +57,14 @@ linux:
 ## Run the library as TF-A's secure partition manager, under QEMU
 secure:
 	board/secure/run.sh
+
+## Run OP-TEE's own tests over the library, under QEMU
+optee:
+	board/secure/run.sh optee
+
+## Run U-Boot's own FF-A tests over the library, in U-Boot's sandbox
+uboot:
+	board/u-boot/run.sh
 
 ## Compare the pages with the code
 # The scripts also check licence lines, the tables in other languages, each list of calls, the names in C, registers in the manual, words of

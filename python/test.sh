@@ -60,7 +60,7 @@ fi
 left=() # what has the types of a package that isn't there
 "$python" -c 'import hypothesis' 2>/dev/null || left=(--exclude test_states)
 if command -v mypy >/dev/null; then
-    (cd "$here" && mypy --strict --cache-dir "$to/mypy" "${left[@]}" gorseplumb tests backend.py bench.py)
+    (cd "$here" && mypy --strict --cache-dir "$to/mypy" "${left[@]}" gorseplumb picture tests backend.py bench.py)
 else
     lacks "types: there is no mypy"
 fi

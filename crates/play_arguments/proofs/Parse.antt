@@ -6,16 +6,16 @@ use Rattle.clap.specs.Words.{App, FailsBy, HasMatchesOf, Text, fault_of, kind_of
 use Rattle.clap.specs.declared.error.Error.{Error}
 use Rattle.clap.specs.declared.error.kind.ErrorKind.TheVariants.{OutOfMemory}
 use Rattle.clap.specs.declared.parser.matches.ArgMatches.{ArgMatches}
-use Rattle.play_arguments.specs.Commands.{IsRefusedFor, asked_by, asked_in, program, bare, run_app, demo_app, record_app, compare_app, check_app, layout_app, descriptor_app, generate_app, picture_app, test_app, lower_app}
+use Rattle.play_arguments.specs.Commands.{IsRefusedFor, asked_by, asked_in, program, bare, run_app, demo_app, record_app, compare_app, check_app, layout_app, descriptor_app, generate_app, test_app, lower_app}
 
 -- clap says what the matches of these commands are
 pub is_simple_program : is_simple program ≡ true
-unfolding clap_on_literals program bare run_app demo_app record_app compare_app check_app layout_app descriptor_app generate_app picture_app test_app lower_app
+unfolding clap_on_literals program bare run_app demo_app record_app compare_app check_app layout_app descriptor_app generate_app test_app lower_app
 is_simple_program = refl
 
 -- clap says which faults it finds in the words of these commands
 pub is_free_program : is_simple_and_free program ≡ true
-unfolding clap_on_literals program bare run_app demo_app record_app compare_app check_app layout_app descriptor_app generate_app picture_app test_app lower_app
+unfolding clap_on_literals program bare run_app demo_app record_app compare_app check_app layout_app descriptor_app generate_app test_app lower_app
 is_free_program = refl
 
 -- the command that was met, with its matches

@@ -13,9 +13,8 @@ use Rattle.clap.specs.declared.builder.action.ArgAction.TheVariants.{Append, Set
 use Rattle.clap.specs.declared.error.Error.{Error}
 use Rattle.play_arguments.specs.declared.command_line.DescriptorWords.{DescriptorWords}
 use Rattle.play_arguments.specs.declared.command_line.MachineOptions.{MachineOptions}
-use Rattle.play_arguments.specs.declared.command_line.PictureOptions.{PictureOptions}
 use Rattle.play_arguments.specs.declared.command_line.Purpose.{Purpose}
-use Rattle.play_arguments.specs.declared.command_line.Purpose.TheVariants.{Print, Record, Compare, Draw}
+use Rattle.play_arguments.specs.declared.command_line.Purpose.TheVariants.{Print, Record, Compare}
 use Rattle.play_arguments.specs.declared.command_line.Source.{Source}
 use Rattle.play_arguments.specs.declared.command_line.Source.TheVariants.{BuiltIn, File}
 use Rattle.play_arguments.specs.declared.command_line.TextOptions.{TextOptions}
@@ -136,16 +135,6 @@ unfoldable pub generate_app : App
 generate_app =
     with_verbose (with_ffa (with_flag (codes "count") (with_size (with_manifest (new_app (codes "generate"))))))
 
--- which lines have a row, and what is drawn of them
-abbrev pub with_rows : App → App
-with_rows app =
-    with_flag (codes "refused") (with_number (codes "width") (codes "0") (with_number (codes "every") (codes "0") app))
-
-unfoldable pub picture_app : App
-picture_app =
-    with_verbose
-    (with_setting (with_flag (codes "page") (with_rows (with_trace (with_manifest (new_app (codes "picture")))))))
-
 -- folders of traces, how it is told what came of them, whether that is counted, whether a trace without a guard passes, and
 -- each machine's setting
 abbrev pub with_folders : App → App
@@ -182,7 +171,7 @@ with_writers app = with_subcommand (with_subcommand app descriptor_app.top) gene
 unfoldable pub program : App
 program =
     let made = with_writers (with_manifests (with_texts (with_plays bare))) in
-    with_subcommand (with_subcommand (with_subcommand made picture_app.top) test_app.top) lower_app.top
+    with_subcommand (with_subcommand made test_app.top) lower_app.top
 
 -- what a descriptor is to hold, in words
 pub record Described : Type 0 where
@@ -216,13 +205,11 @@ pub data Aim : Type 0 where
   print : TextOptions → (strict keep_going interactive : Bool) → Aim
   record_trace : Aim
   compare : (expected : Text) → TextOptions → Aim
-  draw : PictureOptions → Aim
 
 abbrev pub aim_of : Purpose → Aim
 aim_of (Print text strict keep_going interactive) = print text strict keep_going interactive
 aim_of Record = record_trace
 aim_of (Compare expected text) = compare expected.now text
-aim_of (Draw drawing) = draw drawing
 
 -- the path of the manifest of the machine on which a trace is played, which the built-in one hasn't
 abbrev pub path_of : Source → Option Text
@@ -389,17 +376,6 @@ compare_in rows = do
   expected ← first_of (codes "expected") rows
   Some (compare expected (text_in rows))
 
-unfoldable pub draw_in : List Row → Option Aim
-draw_in rows = do
-  every ← number_in (codes "every") rows
-  width ← number_in (codes "width") rows
-  Some (draw (record {
-    every = every;
-    width = width;
-    refused = is_given (codes "refused") rows;
-    page = is_given (codes "page") rows;
-  }))
-
 -- what the matches of a command ask for
 unfoldable pub play_in : List Row → (manifest : Option Text) → Aim → Option Ask
 play_in rows manifest aim = do
@@ -471,7 +447,6 @@ ask_beside name rows =
     else if bytes_eq name (codes "demo") then play_in rows None (print_in rows)
     else if bytes_eq name (codes "record") then play_file_in rows record_trace
     else if bytes_eq name (codes "compare") then compare_in rows >>= play_file_in rows
-    else if bytes_eq name (codes "picture") then draw_in rows >>= play_file_in rows
     else if bytes_eq name (codes "check") then check_in rows
     else if bytes_eq name (codes "layout") then layout_in rows
     else if bytes_eq name (codes "descriptor") then descriptor_in rows

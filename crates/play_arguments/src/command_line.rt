@@ -3,14 +3,14 @@
 ghost use Rattle.std.specs.Prelude.{◌≡◌, IfOk, map, option_map, codes, drop, nat_eq, true};
 ghost use Rattle.std.specs.List.{starts_with};
 ghost use Rattle.clap.specs.Words.{all_of, found_of, first_of, rows_of, subcommand_rows_of};
-ghost use Rattle.play_arguments.specs.Commands.{aim_of, ask_of, path_of, words_of, manifest_of, trace_of, expected_of, verbose_of, answers_at_once, is_input, reads_once, asked_in, is_given, number_of, numeral_of, plain_number_of, has_zero, machine_in, text_in, words_in, ask_beside, ask_in, ask_met, number_in, print_in, compare_in, draw_in, play_in, play_file_in, count_of, processors_in, ffa_of, ffa_in, check_in, layout_in, descriptor_in, generate_in, test_in, lower_in, said_more, excludes_none};
+ghost use Rattle.play_arguments.specs.Commands.{aim_of, ask_of, path_of, words_of, manifest_of, trace_of, expected_of, verbose_of, answers_at_once, is_input, reads_once, asked_in, is_given, number_of, numeral_of, plain_number_of, has_zero, machine_in, text_in, words_in, ask_beside, ask_in, ask_met, number_in, print_in, compare_in, play_in, play_file_in, count_of, processors_in, ffa_of, ffa_in, check_in, layout_in, descriptor_in, generate_in, test_in, lower_in, said_more, excludes_none};
 
 use clap::ArgMatches;
 use ffa_model::{Ffa, MOST_PROCESSORS};
 use std::alloc::{AllocError, Global};
 
 // The options that need a number, with the message for another value.
-const NUMBERS: [(&str, &str); 4] = [
+const NUMBERS: [(&str, &str); 2] = [
     (
         "seed",
         "'--seed' must be a number below 2^64: decimal without a sign or leading zeros, such as 1000, or hexadecimal after 0x, such as 0x3E8",
@@ -18,14 +18,6 @@ const NUMBERS: [(&str, &str); 4] = [
     (
         "lines",
         "'--lines' must be a number below 2^64: decimal without a sign or leading zeros, such as 1000, or hexadecimal after 0x, such as 0x3E8",
-    ),
-    (
-        "every",
-        "'--every' must be a number below 2^64: decimal without a sign or leading zeros, such as 1000, or hexadecimal after 0x, such as 0x3E8",
-    ),
-    (
-        "width",
-        "'--width' must be a number below 2^64: decimal without a sign or leading zeros, such as 1000, or hexadecimal after 0x, such as 0x3E8",
     ),
 ];
 
@@ -89,20 +81,6 @@ pub struct DescriptorWords<'a> {
     pub form: Option<&'a str>,
 }
 
-/// The options for a picture.
-#[derive(Clone, Copy, PartialEq, Eq)]
-pub struct PictureOptions {
-    /// A line has a row if its number is a multiple of this number. If this is 0, a line has a row if it changes the
-    /// certificate.
-    pub every: u64,
-    /// The width in pixels. Columns become narrower to fit it, down to a least width. If it is 0, columns keep their width.
-    pub width: u64,
-    /// Whether each refused call has a row, too.
-    pub refused: bool,
-    /// Whether it is an HTML page that shows the trace line by line, instead of an SVG.
-    pub page: bool,
-}
-
 /// The machine that plays a trace.
 #[derive(Clone, Copy)]
 pub enum Source<'a> {
@@ -143,8 +121,6 @@ pub enum Purpose<'a> {
         expected: &'a str,
         text: TextOptions,
     },
-    /// Draws each endpoint's access to pages along the trace.
-    Draw(PictureOptions),
 }
 
 /// A trace to play, with its machine and its purpose.
@@ -601,18 +577,6 @@ fn compare_in<'a>(matches: &ArgMatches<'a>) -> Option<Purpose<'a>>
     })
 }
 
-#[tactic(auto, unfolding(crate::specs::Commands::draw_in))]
-fn draw_in<'a>(matches: &ArgMatches<'a>) -> Option<Purpose<'a>>
-    ensures { option_map aim_of result ≡ draw_in (rows_of (found_of matches.now)) }
-{
-    Some(Purpose::Draw(PictureOptions {
-        every: number_in(matches, "every")?,
-        width: number_in(matches, "width")?,
-        refused: is_given(matches, "refused"),
-        page: is_given(matches, "page"),
-    }))
-}
-
 // Returns the request to play a trace on the machine of this source.
 #[tactic(auto, unfolding(crate::specs::Commands::play_in))]
 fn play_in<'a>(
@@ -774,8 +738,6 @@ fn request_beside<'a>(name: &str, matches: &ArgMatches<'a>) -> Option<Request<'a
         play_file_in(matches, Purpose::Record)
     } else if name == "compare" {
         play_file_in(matches, compare_in(matches)?)
-    } else if name == "picture" {
-        play_file_in(matches, draw_in(matches)?)
     } else if name == "check" {
         check_in(matches)
     } else if name == "layout" {

@@ -15,9 +15,8 @@ mod program;
 pub use clap::error::ErrorKind;
 use clap::{ArgMatches, Command, Error};
 pub use command_line::{
-    DescriptorWords, FFA_WANTED, GenerateOptions, MachineOptions, PROCESSORS_WANTED,
-    PictureOptions, PlayOptions, Purpose, Request, STANDARD_INPUT, Source, TestOptions,
-    TextOptions, read_ffa, read_processors,
+    DescriptorWords, FFA_WANTED, GenerateOptions, MachineOptions, PROCESSORS_WANTED, PlayOptions,
+    Purpose, Request, STANDARD_INPUT, Source, TestOptions, TextOptions, read_ffa, read_processors,
 };
 pub use program::{TOOLCHAIN, VERSION};
 use std::alloc::{AllocError, Global};

@@ -290,30 +290,6 @@ const TEST: Entry = Entry {
     ],
 };
 
-const EVERY: Word = Word::Number(
-    "every",
-    "Draw a row every N lines; 0 draws each change",
-    "0",
-);
-
-const WIDTH: Word = Word::Number(
-    "width",
-    "Narrow columns to fit N pixels; 0 keeps their width",
-    "0",
-);
-
-const REFUSED: Word = Word::Flag("refused", "Also draw a row for each refused call");
-
-const PAGE: Word = Word::Flag("page", "Print an HTML page to step through instead of SVG");
-
-const PICTURE: Entry = Entry {
-    name: "picture",
-    about: "Draw each endpoint's access along a trace, as SVG",
-    words: &[
-        MANIFEST, TRACE, EVERY, WIDTH, REFUSED, PAGE, PROCESSORS, FFA, WORDS, VERBOSE,
-    ],
-};
-
 const LOWER: Entry = Entry {
     name: "lower",
     about: "Convert a trace with named calls to the plain format",
@@ -398,14 +374,14 @@ fn with_commands<'a>(alloc: Global, entries: &[Entry<'a>]) -> Result<Command<'a>
 }
 
 /// The command line of the program, for `clap`.
-#[tactic(auto, unfolding(crate::specs::Commands::program, crate::specs::Commands::run_app, crate::specs::Commands::demo_app, crate::specs::Commands::record_app, crate::specs::Commands::compare_app, crate::specs::Commands::check_app, crate::specs::Commands::layout_app, crate::specs::Commands::descriptor_app, crate::specs::Commands::generate_app, crate::specs::Commands::picture_app, crate::specs::Commands::test_app, crate::specs::Commands::lower_app))]
+#[tactic(auto, unfolding(crate::specs::Commands::program, crate::specs::Commands::run_app, crate::specs::Commands::demo_app, crate::specs::Commands::record_app, crate::specs::Commands::compare_app, crate::specs::Commands::check_app, crate::specs::Commands::layout_app, crate::specs::Commands::descriptor_app, crate::specs::Commands::generate_app, crate::specs::Commands::test_app, crate::specs::Commands::lower_app))]
 pub(crate) fn program<'a>(alloc: Global) -> Result<Command<'a>, AllocError>
     ensures { IfOk result (λ c. app_of c ≡ program) }
 {
     with_commands(
         alloc,
         &[
-            RUN, DEMO, RECORD, COMPARE, CHECK, LAYOUT, DESCRIPTOR, GENERATE, PICTURE, TEST, LOWER,
+            RUN, DEMO, RECORD, COMPARE, CHECK, LAYOUT, DESCRIPTOR, GENERATE, TEST, LOWER,
         ],
     )
 }

@@ -9,7 +9,7 @@ use Rattle.play_arguments.specs.declared.command_line.Request.TheVariants as req
 use Rattle.play_forms.specs.declared.form.Form.{Form}
 use Rattle.play_report.specs.declared.failure.Failure.{Failure}
 use Rattle.play_report.specs.declared.failure.Failure.TheVariants as failure
-use Rattle.play_tasks.specs.Plays.{IsDoneBy, IsPlayed, KnownTask, OverfullBy, StopsBy, UnmetBy}
+use Rattle.play_tasks.specs.Plays.{IsDoneBy, IsPlayed, KnownTask, StopsBy, UnmetBy}
 use Rattle.play_tasks.specs.declared.task.Task.TheVariants as task
 use Rattle.play_transcript.specs.Traces.{Wrote}
 use Rattle.play_commands.specs.Performed.{Differs, FailsFor, IsDone, IsQuiet, IsUnsaid, Played, Ran, StopsAt, UnmetAt}
@@ -47,8 +47,6 @@ module _ (ran : Ran) (holds : Option (List ℕ)) (kept : Keeps ran.streams.holds
   done_by task.Recorded start p = record { lines = p.lines; each = p.each; all = p.all; written = written _ p.written; replays = p.replays }
   done_by (task.Session form) start p = record { lines = p.lines; rest = p.rest; each = p.each; ends = p.ends; all = p.all; written = written _ p.written }
   done_by (task.Compare expected form) start (p, still) = (p, quiet still)
-  done_by (task.Drawn keep width) start (p, picture) = (p, record { front = picture.front; written = written _ picture.written })
-  done_by task.Paged start (p, page) = (p, record { rest = page.rest; inert = page.inert; written = written _ page.written })
   done_by _ start p = played p
 
   stops_by : (t : KnownTask) (start : Bench) (n : ℕ) → StopsBy t start ran.streams n → StopsBy t start (with_holds ran holds).streams n
@@ -59,8 +57,6 @@ module _ (ran : Ran) (holds : Option (List ℕ)) (kept : Keeps ran.streams.holds
   stops_by task.Recorded start n (lines, ends, p) = (lines, ends, written _ p)
   stops_by (task.Session form) start n never = absurd never
   stops_by (task.Compare expected form) start n (p, still) = (p, quiet still)
-  stops_by (task.Drawn keep width) start n (lines, ends, still) = (lines, ends, quiet still)
-  stops_by task.Paged start n (lines, ends, still) = (lines, ends, quiet still)
 
   unmet_by : (t : KnownTask) (start : Bench) (n : ℕ) → UnmetBy t start ran.streams n → UnmetBy t start (with_holds ran holds).streams n
   unmet_by (task.Guarded form) start n p = record {
@@ -80,10 +76,6 @@ module _ (ran : Ran) (holds : Option (List ℕ)) (kept : Keeps ran.streams.holds
   unmet_by (task.GuardedToEnd form) start n p =
       record { lines = p.lines; each = p.each; all = p.all; more = p.more; unmet = p.unmet; written = written _ p.written }
   unmet_by other start n p = p
-
-  overfull_by : (t : KnownTask) (start : Bench) (most : ℕ) → OverfullBy t start ran.streams most → OverfullBy t start (with_holds ran holds).streams most
-  overfull_by (task.Drawn keep width) start most (lines, began, few, still) = (lines, began, few, quiet still)
-  overfull_by other start most p = p
 
   -- a play that left one thing left another
   leaves : (o : PlayOptions) {L M : KnownTask → Bench → Type 0} → ((t : KnownTask) (start : Bench) → L t start → M t start) → Played o ran L
@@ -112,7 +104,7 @@ module _ (ran : Ran) (holds : Option (List ℕ)) (kept : Keeps ran.streams.holds
   breached other n p = p
 
   unsaid : (request : Request) → IsUnsaid request ran → IsUnsaid request (with_holds ran holds)
-  unsaid (request.Play o) (most, p) = (most, leaves o (λ t start. overfull_by t start most) p)
+  unsaid (request.Descriptor path words) p = p
   unsaid other p = p
 
   pub fails : (request : Request) (it : Failure) → FailsFor request ran it → FailsFor request (with_holds ran holds) it
@@ -122,5 +114,4 @@ module _ (ran : Ran) (holds : Option (List ℕ)) (kept : Keeps ran.streams.holds
   fails request (failure.Unmet n) p = breached request n p
   fails request (failure.Words fault) (p, still) = (unsaid request p, quiet still)
   fails request (failure.Unfit cause) (p, still) = (unsaid request p, quiet still)
-  fails request (failure.TooManyRows most) (p, still) = (unsaid request p, quiet still)
   fails request _ p = p

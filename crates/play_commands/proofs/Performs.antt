@@ -1,7 +1,6 @@
 -- SPDX-License-Identifier: MIT OR Apache-2.0
 -- What a command leaves, from what its parts do.
 use Rattle.std.proofs.Common.{◌≡◌, Bor, true, false, List, ℕ, Option, None, Some, Result, Ok, Err, inl, inr, refl, ap, arith, IfErr, OnOk, is_some, option_map}
-use Rattle.std.specs.Io.KnownBytes.{Keeps}
 use Rattle.ffa_model.specs.declared.manifest.Ffa.{Ffa}
 use Rattle.ffa_model.specs.declared.manifest.Ffa.TheVariants.{V1_2}
 use Rattle.ffa_manifest.specs.Document.{Parts}
@@ -10,7 +9,7 @@ use Rattle.play_report.specs.Descriptors.{AreWords, FailsToSay, FailsToSayFor, I
 use Rattle.play_report.specs.Failures.{status_of}
 use Rattle.play_report.specs.Manifests.{FailsUnplayed, IsAccepted}
 use Rattle.play_report.specs.declared.failure.Failure.{Failure}
-use Rattle.play_report.specs.declared.failure.Failure.TheVariants.{Manifest, BadLine, Read, Write, NoMemory, Differs, Unmet, Words, Unfit, TooManyRows}
+use Rattle.play_report.specs.declared.failure.Failure.TheVariants.{Manifest, BadLine, Read, Write, NoMemory, Differs, Unmet, Words, Unfit}
 use Rattle.play_arguments.specs.Commands.{Described, path_of}
 use Rattle.play_arguments.specs.declared.command_line.DescriptorWords.{DescriptorWords}
 use Rattle.play_arguments.specs.declared.command_line.PlayOptions.{PlayOptions}
@@ -18,10 +17,9 @@ use Rattle.play_arguments.specs.declared.command_line.Source.{Source}
 use Rattle.play_arguments.specs.declared.command_line.Source.TheVariants.{BuiltIn, File}
 use Rattle.play_arguments.specs.declared.command_line.Request.{Request}
 use Rattle.play_arguments.specs.declared.command_line.Request.TheVariants as request
-use Rattle.play_tasks.specs.Plays.{KnownTask, OverfullBy, PlayFails, Plays, Streams}
+use Rattle.play_tasks.specs.Plays.{KnownTask, PlayFails, Plays, Streams}
 use Rattle.play_tasks.specs.Starts.{begun_by}
 use Rattle.play_tasks.specs.Purposes.{IsTaskFor}
-use Rattle.play_tasks.specs.declared.task.Task.TheVariants.{Drawn}
 use Rattle.play_commands.specs.Performed.{Does, FailsFor, FailsToName, HasParts, IsDone, IsQuiet, IsRead, Played, Ran, SomeBadLine, SomeUnmetGuard, ffa_of, first_of, needs_manifest, needs_trace}
 
 -- COMMANDS THAT PLAY NO TRACE, OR NOT YET
@@ -82,10 +80,6 @@ accepted : (ffa : Ffa) (source : Source) (manifest : Option (List ℕ)) (parts :
 accepted ffa BuiltIn manifest parts built needed = absurd cc
 accepted ffa (File path) manifest parts is needed = (parts, is)
 
-overfull_quiet : (task : KnownTask) (start : Bench) (streams : Streams) (most : ℕ) → OverfullBy task start streams most → Keeps streams.held streams.holds
-overfull_quiet (Drawn keep width) start streams most over = over.3
-overfull_quiet other start streams most never = absurd never
-
 -- the trace could be opened
 abbrev pub opened : (manifest : Option (List ℕ)) (expected : Option (Option (List ℕ))) → Streams → Ran
 opened manifest expected streams = record { manifest = manifest; is_open = true; expected = expected; streams = streams }
@@ -109,7 +103,6 @@ module _ (o : PlayOptions) (manifest : Option (List ℕ)) (expected : Option (Op
   play_fails trace NoMemory any = tt
   play_fails trace Differs differs = leaving differs
   play_fails trace (Unmet n) unmet = leaving unmet
-  play_fails trace (TooManyRows most) over = ((most, leaving over), overfull_quiet task begun streams most over)
   play_fails trace other never = absurd never
 
   pub play_does : (trace : Bor (List ℕ)) (result : Result (Unit {0}) Failure) → Plays task trace begun streams result → Does (request.Play o) (opened manifest expected streams) result

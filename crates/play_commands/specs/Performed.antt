@@ -24,7 +24,7 @@ use Rattle.play_report.specs.Manifests.{Describes, FailsUnplayed, IsAccepted, Is
 use Rattle.play_report.specs.declared.failure.Failure.{Failure}
 use Rattle.play_report.specs.declared.failure.Failure.TheVariants as failure
 use Rattle.play_tasks.specs.Counted.{CountsTrace}
-use Rattle.play_tasks.specs.Plays.{DiffersBy, IsDoneBy, KnownTask, OverfullBy, StopsBy, Streams, UnmetBy, streams_of}
+use Rattle.play_tasks.specs.Plays.{DiffersBy, IsDoneBy, KnownTask, StopsBy, Streams, UnmetBy, streams_of}
 use Rattle.play_tasks.specs.Starts.{begun_by}
 use Rattle.play_tasks.specs.Purposes.{IsTaskFor, is_session_for, is_strict_for}
 use Rattle.play_arguments.specs.Commands.{Described, ask_of, manifest_of, trace_of}
@@ -166,13 +166,12 @@ UnmetAt other ran n = ⊥
 abbrev pub SomeUnmetGuard : Request → Ran → Type 0
 SomeUnmetGuard request ran = (ran.is_open ≡ true) × ((n : ℕ) × UnmetAt request ran n)
 
--- what the words ask for can't be had: the words of a descriptor say none, or no bytes say what they do; or a picture
--- would have too many rows, which is no answer to any other command
+-- what the words ask for can't be had: the words of a descriptor say none, or no bytes say what they do; which is no
+-- answer to any other command
 abbrev pub IsUnsaid : Request → Ran → Type 0
 IsUnsaid (request.Descriptor path words) ran =
     (own : Described) × AreWords path ran.manifest words own
     × (((fault : WordsFault) × IsMisread own fault) ⊎ ((cause : Unfit) × IsUnfit own cause))
-IsUnsaid (request.Play o) ran = (most : ℕ) × Played o ran (λ task start. OverfullBy task start ran.streams most)
 IsUnsaid other ran = ⊥
 
 -- the manifest is refused, and nothing was written
@@ -201,7 +200,6 @@ FailsFor request ran failure.Differs = Differs request ran
 FailsFor request ran (failure.Unmet n) = UnmetAt request ran n
 FailsFor request ran (failure.Words fault) = IsUnsaid request ran × IsQuiet ran
 FailsFor request ran (failure.Unfit cause) = IsUnsaid request ran × IsQuiet ran
-FailsFor request ran (failure.TooManyRows most) = IsUnsaid request ran × IsQuiet ran
 
 -- a bad line, and a guard, stands in a trace that could be opened
 abbrev pub IsRead : Bool → Failure → Type 0

@@ -36,8 +36,7 @@ impl<M: Machines, A: Allocator + Copy> Commands for Program<M, A> {
     /// that is; where there is no memory to find that, it is told alone. The status is 0
     /// for a command that was done, 1 for a manifest that is refused, 2 for a line that is none of a trace, 3 where a file
     /// can't be read, `out` can't be written or memory is short, 4 where a trace prints another text than is expected, 5
-    /// where a guard of the trace isn't met, and 64 where the words of a descriptor make no sense, or a picture would have more
-    /// rows than fit. Faults are found in this order: the manifest's file, the manifest, the words of a descriptor, the trace's
+    /// where a guard of the trace isn't met, and 64 where the words of a descriptor make no sense. Faults are found in this order: the manifest's file, the manifest, the words of a descriptor, the trace's
     /// file, the file of the expected text, RAM, the trace and the expected text, which are read together. A session tells `err`
     /// of bad lines too, and is done where its trace ends. Where guards are checked, `err` is told before its other lines which
     /// comments are nearly guards, and of a command that was done how many guards were met. An `out` that can't be flushed can't

@@ -12,7 +12,7 @@ use ffa_model::{
     Address, Data, Endpoint, MOST_ENDPOINTS, Manifest, PageNo, Properties, Region, Rights, Version,
 };
 
-// Sixteen writable pages.
+// Returns a region of sixteen writable pages.
 fn region(base: u32, exec: bool) -> Region
     ensures { result ≡ sixteen_writable base exec }
 {
@@ -37,7 +37,7 @@ fn endpoint(uuid: [u8; 16], properties: u32, region: Region) -> Endpoint
     }
 }
 
-// The normal world and one partition.
+// Returns the normal world and one partition.
 fn two_endpoints() -> ArrayVec<Endpoint, MOST_ENDPOINTS>
     ensures { result.items ≡ built_in_endpoints }
 {
@@ -50,8 +50,9 @@ fn two_endpoints() -> ArrayVec<Endpoint, MOST_ENDPOINTS>
     endpoints
 }
 
-/// The machine of the program's demonstration: 2 MiB of RAM at 0x40000000, the normal world with 16 writable pages at
-/// 0x40010000, and one partition with 16 pages at 0x40020000 that it may write and execute.
+/// Returns the machine of the program's demonstration, which serves FF-A 1.1. It has 2 MiB of RAM at 0x40000000. The
+/// normal world has 16 writable pages at 0x40010000. The one partition has 16 pages at 0x40020000, which it may write
+/// and execute.
 pub fn built_in() -> Manifest
     ensures base { result.ram_base.0 ≡ 0x40000000 }
     ensures blocks { result.ram_blocks ≡ 1 }

@@ -1,5 +1,5 @@
 // SPDX-License-Identifier: MIT OR Apache-2.0
-//! What is wrong with words.
+//! The faults of words.
 ghost use Rattle.std.specs.Prelude.{◌≡◌};
 ghost use Rattle.play_descriptor.specs.Forms.{form_of};
 
@@ -8,7 +8,7 @@ use ffa_model::Kind;
 use std::error::Error;
 use std::fmt;
 
-/// A word of the command line. It prints as it is given there.
+/// A word of the command line of `ffaplay descriptor`. It prints as a user writes it there.
 #[derive(Clone, Copy, Debug, PartialEq, Eq)]
 pub enum Word {
     Tx,
@@ -22,7 +22,8 @@ pub enum Word {
     Form,
 }
 
-/// What words are for: a descriptor and its call, or a reclaim, which has no descriptor. It prints as the command's word.
+/// The purpose of words: a descriptor and its call, or a reclaim, which has no descriptor. It prints as the command's
+/// word.
 #[derive(Clone, Copy, Debug, PartialEq, Eq)]
 pub enum Form {
     Donate,
@@ -33,20 +34,21 @@ pub enum Form {
     Reclaim,
 }
 
-/// What is wrong first with the words of a descriptor. It prints as one line.
+/// The first fault of the words of a descriptor. It prints as one line.
 ///
-/// A kind that is unknown comes first, then words that have no place, then those that are missing, and then those that can't
-/// be read or are too many, or have a right that has no place: each in the order in which `Word` has them.
+/// An unknown kind comes first. Then come words that have no place, and then words that are missing. Last come words
+/// that cannot be read, lists with too many members, and rights that have no place. Each of these groups follows the
+/// order of `Word`.
 #[derive(Clone, Copy, Debug, PartialEq, Eq)]
 pub enum WordsFault {
     UnknownKind,
-    /// The word has no place where the words are for this.
+    /// The word has no place in words of this form.
     OutOfPlace(Word, Form),
-    /// A descriptor of this kind needs the word, or a reclaim does.
+    /// The word is missing, and a descriptor of this kind or a reclaim needs it.
     Missing(Word),
-    /// The list has more members than a descriptor of this kind can have.
+    /// The word's list has more members than a descriptor of this kind can have.
     TooMany(Word),
-    /// An endpoint has this right beside it, which has no place there.
+    /// An endpoint in `--to` has this right, which has no place in words of this form.
     RightOutOfPlace(Right, Form),
     Unreadable(Word),
 }
@@ -66,7 +68,7 @@ impl Word {
         }
     }
 
-    // What the word must be.
+    // Returns what the word must be.
     fn form(self) -> &'static str {
         match self {
             Word::Tx => "must be the address of a page, such as 4002E000",
@@ -82,7 +84,7 @@ impl Word {
 }
 
 impl Form {
-    /// The form of a send of this kind.
+    /// Returns the form of a send of this kind.
     pub fn of_send(kind: Kind) -> Form
         ensures { result ≡ form_of kind }
     {
@@ -104,7 +106,7 @@ impl Form {
         }
     }
 
-    // Which rights an endpoint may have in this form, and where other rights are requested.
+    // Returns the rights that an endpoint may have in this form, and where other rights are requested.
     fn rights(self) -> &'static str {
         match self {
             Form::Donate => "grants no right; its receiver requests one in the retrieve",
@@ -116,7 +118,7 @@ impl Form {
         }
     }
 
-    // What to use instead of a word that cannot be used for this form.
+    // Returns what to use instead of a word that cannot be used for this form.
     fn instead(self, word: Word) -> &'static str {
         match (self, word) {
             (Form::Reclaim, _) => ", which takes --handle and --zero",

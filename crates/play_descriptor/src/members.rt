@@ -1,5 +1,5 @@
 // SPDX-License-Identifier: MIT OR Apache-2.0
-//! Words that are read by themselves.
+//! Readers of single words.
 ghost use Rattle.std.specs.Prelude.{◌≡◌, ◌%◌, ◌≤◌, length, option_map, IfSome};
 ghost use Rattle.play_descriptor.specs.Members.{asker_of, each, first_misplaced, grant_of, identifier_of, kind_of, members_of, misplaced_of, page_count_of, range_of, receiver_of, right_of, tx_of, version_of};
 
@@ -11,7 +11,8 @@ use ffa_model::{
     Address, Data, EndpointId, Kind, MOST_RANGES, MOST_RECEIVERS, Range, Receiver, Version,
 };
 
-/// The endpoint that retrieves, and the right that it asks for. A right to data that is `None` isn't specified.
+/// The endpoint that retrieves, and the right that it requests. If the right to data is `None`, the retrieve does not
+/// specify it.
 #[derive(Clone, Copy, PartialEq, Eq)]
 pub struct Asker {
     pub endpoint: EndpointId,
@@ -39,7 +40,7 @@ fn read_page_count(word: &str) -> Option<u32>
     }
 }
 
-/// The address of TX.
+/// Reads the address of TX, which must be the address of a page below 2^32. Returns `None` for any other word.
 #[tactic(auto, unfolding(crate::specs::Members::tx_of))]
 pub(crate) fn read_tx(word: &str) -> Option<Address>
     ensures value { result ≡ tx_of word.now }
@@ -62,7 +63,7 @@ fn read_range(word: &str) -> Option<Range>
     })
 }
 
-/// The kind of a transaction.
+/// Reads the kind of a transaction: `donate`, `lend` or `share`. Returns `None` for any other word.
 #[tactic(auto, unfolding(crate::specs::Members::kind_of))]
 pub(crate) fn read_kind(word: &str) -> Option<Kind>
     ensures { result ≡ kind_of word.now }
@@ -75,7 +76,8 @@ pub(crate) fn read_kind(word: &str) -> Option<Kind>
     }
 }
 
-/// The version in whose form a descriptor is written.
+/// Reads the version in whose form a descriptor is written: `compact`, `1.1` or `1.2`. Returns `None` for any other
+/// word.
 #[tactic(auto, unfolding(crate::specs::Members::version_of))]
 pub(crate) fn read_version(word: &str) -> Option<Version>
     ensures { result ≡ version_of word.now }
@@ -108,7 +110,7 @@ fn read_right(word: &str) -> Option<(Option<Data>, bool)>
     }
 }
 
-// The right beside an endpoint, where it is one that has no place there.
+// Returns the right after an endpoint, if the right has no place in this form.
 #[tactic(auto, unfolding(crate::specs::Members::misplaced_of))]
 fn misplaced(form: Form, word: &str) -> Option<Right>
     ensures { result ≡ misplaced_of form word.now }
@@ -122,7 +124,7 @@ fn misplaced(form: Form, word: &str) -> Option<Right>
     }
 }
 
-/// The first right in a list of endpoints that has no place there.
+/// Returns the first right in a list of endpoints that has no place in this form, or `None` if each right has a place.
 pub(crate) fn first_misplaced(form: Form, text: &str) -> Option<Right>
     ensures { result ≡ first_misplaced form (members_of text.now) }
 {
@@ -150,7 +152,7 @@ fn read_receiver(word: &str) -> Option<Receiver>
     Some(Receiver { endpoint, grant })
 }
 
-/// The one receiver of a retrieve.
+/// Reads the one receiver of a retrieve, which may have a right, as in `8002:rw`. Returns `None` for any other word.
 #[tactic(auto, unfolding(crate::specs::Members::asker_of))]
 pub(crate) fn read_asker(word: &str) -> Option<Asker>
     ensures { result ≡ asker_of word.now }
@@ -168,7 +170,8 @@ pub(crate) fn read_asker(word: &str) -> Option<Asker>
     })
 }
 
-/// The receivers of a send.
+/// Reads the receivers of a send, which have commas between them. Returns `None` if one of them cannot be read. The
+/// list has at most MOST_RECEIVERS members.
 pub(crate) fn read_receivers(text: &str) -> Option<ArrayVec<Receiver, MOST_RECEIVERS>>
     requires { length (members_of text.now) ≤ MOST_RECEIVERS }
     ensures { option_map (λ rs. rs.items) result ≡ each receiver_of (members_of text.now) }
@@ -183,7 +186,8 @@ pub(crate) fn read_receivers(text: &str) -> Option<ArrayVec<Receiver, MOST_RECEI
     Some(receivers)
 }
 
-/// The ranges of a send.
+/// Reads the ranges of a send, which have commas between them. Returns `None` if one of them cannot be read. The list
+/// has at most MOST_RANGES members.
 pub(crate) fn read_ranges(text: &str) -> Option<ArrayVec<Range, MOST_RANGES>>
     requires { length (members_of text.now) ≤ MOST_RANGES }
     ensures { option_map (λ rs. rs.items) result ≡ each range_of (members_of text.now) }

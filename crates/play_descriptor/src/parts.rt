@@ -1,5 +1,5 @@
 // SPDX-License-Identifier: MIT OR Apache-2.0
-//! The parts of a word: those between its commas, those round a colon or a plus, and numbers.
+//! The parts of a word: members between commas, parts before and after a colon or a plus, and numbers.
 ghost use Rattle.std.specs.Prelude.{◌≡◌, ◌+◌, ◌<◌, ◌==◌, ◌∷◌, length, IfSome, option_map};
 ghost use Rattle.std.specs.List.{slice_split};
 ghost use Rattle.play_syntax.specs.TraceLines.{number_in};
@@ -8,7 +8,8 @@ ghost use Rattle.play_descriptor.specs.Cuts.{parts_left};
 
 use play_syntax::number::number_in;
 
-/// What stands before the first mark, and behind it where there is one.
+/// Cuts a text at its first mark. Returns the text before the mark, and the text after it. Without a mark, it returns
+/// the whole text and `None`.
 pub(crate) fn cut(text: &str, mark: char) -> (&str, Option<&str>)
     requires { mark < 128 }
     ensures parts { slice_split (λ c. c == mark) text.now ≡ result.0.now ∷ parts_left mark result.1 }
@@ -20,7 +21,7 @@ pub(crate) fn cut(text: &str, mark: char) -> (&str, Option<&str>)
     }
 }
 
-/// The one part or the two of a word with at most one mark.
+/// Cuts a word at its mark, and returns one part or two. Returns `None` if the word has more than one mark.
 pub(crate) fn one_or_two(word: &str, mark: char) -> Option<(&str, Option<&str>)>
     requires { mark < 128 }
     ensures { option_map (λ p. (p.0.now, option_map (λ s. s.now) p.1)) result
@@ -36,7 +37,7 @@ pub(crate) fn one_or_two(word: &str, mark: char) -> Option<(&str, Option<&str>)>
     }
 }
 
-/// How many commas a list has, one less than members.
+/// Returns the number of commas in a list, which is one less than the number of members.
 pub(crate) fn commas(text: &str) -> usize
     ensures { result + 1 ≡ length (slice_split (λ c. c == comma) text.now) }
 {
@@ -49,7 +50,8 @@ pub(crate) fn commas(text: &str) -> usize
     count
 }
 
-/// The number that 1 to 16 hexadecimal digits write, with `0x` or `0X` before them or without.
+/// Returns the number that 1 to 16 hexadecimal digits write, with or without `0x` or `0X` before them. Returns `None`
+/// for any other word.
 pub(crate) fn number(word: &str) -> Option<u64>
     ensures { result ≡ number_in 16 word.now }
 {

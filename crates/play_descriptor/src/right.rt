@@ -1,5 +1,5 @@
 // SPDX-License-Identifier: MIT OR Apache-2.0
-//! The right beside an endpoint, in words.
+//! The right after an endpoint, in words.
 ghost use Rattle.std.specs.Prelude.{◌≡◌};
 ghost use Rattle.play_descriptor.specs.Forms.{asked_by, has_place, right_named};
 
@@ -18,7 +18,7 @@ pub enum Right {
 }
 
 impl Right {
-    /// The right that a word names.
+    /// Returns the right that a word names, or `None` if the word names no right.
     #[tactic(auto, unfolding(crate::specs::Forms::right_named))]
     pub(crate) fn read(word: &str) -> Option<Right>
         ensures { result ≡ right_named word.now }
@@ -33,7 +33,8 @@ impl Right {
         }
     }
 
-    /// The right to data, where it names one, and whether instructions may be fetched.
+    /// Returns the right to data, or `None` if this right does not name it, and whether the endpoint may fetch
+    /// instructions.
     pub(crate) fn asked(self) -> (Option<Data>, bool)
         ensures { result ≡ asked_by self }
     {
@@ -46,7 +47,7 @@ impl Right {
         }
     }
 
-    /// Whether the right has a place beside a receiver.
+    /// Whether the right has a place after a receiver in words of this form.
     pub(crate) fn has_place(self, form: Form) -> bool
         ensures { result ≡ has_place form self }
     {

@@ -1,5 +1,5 @@
 // SPDX-License-Identifier: MIT OR Apache-2.0
-//! What the words of a descriptor say.
+//! The meaning of the words of a descriptor.
 ghost use Rattle.std.specs.Prelude.{◌≡◌, ◌%◌, IfOk, option_map, is_some};
 ghost use Rattle.play_arguments.specs.Commands.{words_of};
 ghost use Rattle.play_descriptor.specs.Told.{Exact, HasAlignedTx, asked, asker_in, at_most, endpoint_in, handle_in, only_rights, require, of_in, ranges_in, receivers_in, reclaim_told, relinquish_told, retrieve_told, send_told, sender_in, tag_in, told, tx_in, refuse, version_in};
@@ -18,30 +18,33 @@ use ffa_model::{
 use play_arguments::DescriptorWords;
 use play_writer::{DescriptorContents, Reclaim};
 
-/// What words say: a descriptor, its form, and where TX stands.
+/// The meaning of words: a descriptor, the version in whose form it is written, and the address of TX.
 #[derive(Drop)]
 pub struct Told {
     pub version: Version,
     pub descriptor: DescriptorContents,
-    /// A multiple of 4096.
+    /// The address of TX, which is a multiple of 4096.
     pub tx: Address,
 }
 
-/// What words ask for: a descriptor and its call, or a call that has none.
+/// The request of words: a descriptor and its call, or a call that has no descriptor.
 #[derive(Drop)]
 pub enum Asked {
     Descriptor(Told),
     Reclaim(Reclaim),
 }
 
-/// Reads the words of a descriptor or of a reclaim, or says what is wrong first with them.
+/// Reads the words of a descriptor or of a reclaim. If a word is wrong, it returns the first fault.
 ///
-/// Numbers are hexadecimal, of 1 to 16 digits, and may have `0x` or `0X` before them. Each descriptor needs where TX stands, and
-/// may have a form, which is that of FF-A 1.1 if no form is given. A
-/// donate, a lend and a share need the sender, the receivers and the pages, and may have a tag and be zeroed; a receiver of a lend
-/// or a share has a right to data, which the writer checks. A retrieve needs the sender, the one receiver, which may have a right to data and to
-/// instructions, and the handle, and may have a tag and the kind of the transaction. A relinquish needs the one receiver and the
-/// handle, and may be zeroed. A reclaim needs the handle alone, and may be zeroed.
+/// Numbers are hexadecimal, of 1 to 16 digits, and may have `0x` or `0X` before them. Each descriptor needs the address
+/// of TX. It may have a form, which is the form of FF-A 1.1 if the words give no form.
+///
+/// - A donate, a lend and a share need the sender, the receivers and the pages. They may have a tag, and may be zeroed.
+///   A receiver of a lend or a share has a right to data, which the writer checks.
+/// - A retrieve needs the sender, the one receiver and the handle. The receiver may have a right to data and to
+///   instructions. The retrieve may have a tag and the kind of the transaction.
+/// - A relinquish needs the one receiver and the handle, and may be zeroed.
+/// - A reclaim needs only the handle, and may be zeroed.
 #[tactic(auto, unfolding(crate::specs::Told::asked))]
 pub fn read_words(words: &DescriptorWords<'_>) -> Result<Asked, WordsFault>
     ensures asked { result ≡ asked (words_of words.now) }
@@ -188,7 +191,7 @@ fn require<'a>(word: Word, given: Option<&'a str>) -> Result<&'a str, WordsFault
     given.ok_or(WordsFault::Missing(word))
 }
 
-// Whether a list has at most so many members.
+// Refuses a list that has more than `most` members.
 fn at_most(most: usize, word: Word, text: &str) -> Result<(), WordsFault>
     ensures { result ≡ at_most most word text.now }
 {
@@ -199,7 +202,7 @@ fn at_most(most: usize, word: Word, text: &str) -> Result<(), WordsFault>
     }
 }
 
-// Refuses a list of endpoints with a right that has no place there.
+// Refuses a list of endpoints with a right that has no place in this form.
 fn only_rights(form: Form, text: &str) -> Result<(), WordsFault>
     ensures { result ≡ only_rights form text.now }
 {

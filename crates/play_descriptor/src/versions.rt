@@ -1,5 +1,5 @@
 // SPDX-License-Identifier: MIT OR Apache-2.0
-//! In which form a descriptor is written by the manifest of a machine.
+//! Chooses the form of a descriptor by the manifest of a machine.
 ghost use Rattle.std.specs.Prelude.{◌≡◌, option_map};
 ghost use Rattle.play_arguments.specs.Commands.{words_of};
 ghost use Rattle.play_descriptor.specs.Versions.{caller_of, manifest_version, usual_form, version_text, versioned};
@@ -8,8 +8,8 @@ use crate::members::{read_asker, read_identifier};
 use ffa_model::{EndpointId, Manifest, Version};
 use play_arguments::DescriptorWords;
 
-/// Returns the words with the form of the caller's version in a manifest, unless they give another form. If the manifest does
-/// not have the caller, the words stay as they are.
+/// Returns the words with the form of the caller's version in a manifest, unless they give another form. If the
+/// manifest does not have the caller, the words stay as they are.
 #[tactic(auto, unfolding(crate::specs::Versions::versioned))]
 pub fn words_for<'a>(words: DescriptorWords<'a>, manifest: &Manifest) -> DescriptorWords<'a>
     ensures { words_of result ≡ versioned manifest.now.endpoints.items (words_of words.entry) }
@@ -21,7 +21,7 @@ pub fn words_for<'a>(words: DescriptorWords<'a>, manifest: &Manifest) -> Descrip
     DescriptorWords { form, ..words }
 }
 
-// The form of the caller, if the words say who calls and the manifest has this endpoint.
+// Returns the form of the caller, if the words say who calls and the manifest has this endpoint.
 #[tactic(auto, unfolding(crate::specs::Versions::usual_form))]
 fn usual_form(words: &DescriptorWords<'_>, manifest: &Manifest) -> Option<&'static str>
     ensures { option_map (λ s. s.now) result ≡ usual_form manifest.now.endpoints.items (words_of words.now) }
@@ -29,7 +29,7 @@ fn usual_form(words: &DescriptorWords<'_>, manifest: &Manifest) -> Option<&'stat
     Some(version_text(manifest_version(caller(words)?, manifest)?))
 }
 
-// Who calls with a descriptor, where the words say it.
+// Returns the endpoint that calls with a descriptor, if the words say it.
 #[tactic(auto, unfolding(crate::specs::Versions::caller_of))]
 fn caller(words: &DescriptorWords<'_>) -> Option<EndpointId>
     ensures { result ≡ caller_of (words_of words.now) }

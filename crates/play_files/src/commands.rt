@@ -1,27 +1,28 @@
 // SPDX-License-Identifier: MIT OR Apache-2.0
-//! What does what the words ask for.
+//! The trait of the code that does commands.
 use play_arguments::{PlayOptions, Request};
 use play_transcript::Counts;
 use std::alloc::AllocError;
 use std::fmt::Display;
 use std::io::{self, ErrorKind, Read, Write};
 
-/// What was read of the files that a command names. What it doesn't name is left alone.
+/// The files that a command names, as far as the program could read or open them. The program leaves other files
+/// closed.
 #[derive(Drop)]
 pub struct Files<'a, R> {
-    /// The bytes of the manifest's file, or `None` where it can't be read.
+    /// The bytes of the manifest's file, or `None` if the program cannot read it.
     pub manifest: Option<&'a [u8]>,
-    /// What reads the trace's file, or `None` where it can't be opened.
+    /// The reader of the trace's file, or `None` if the program cannot open it.
     pub trace: Option<R>,
-    /// What reads the file of the expected text, or `None` where it can't be opened.
+    /// The reader of the file with the expected text, or `None` if the program cannot open it.
     pub expected: Option<R>,
-    /// Why the first of these that can't be read or opened can't be.
+    /// The reason why the program cannot read or open the first of these files that fails.
     pub reason: Option<ErrorKind>,
 }
 
-/// What does what the words ask for, and answers the status with which the program ends.
+/// The code that does commands, and returns the status with which the program ends.
 pub trait Commands {
-    /// Does what was asked for.
+    /// Does the command of a request, and returns the status with which the program ends.
     fn perform<R: Read + Drop, W: Write, E: Write>(
         &self,
         request: &Request<'_>,
@@ -30,8 +31,8 @@ pub trait Commands {
         err: &mut E,
     ) -> u8;
 
-    /// Prints the trace at this path as one of the plain format, if it could be opened, and says more of a bad line where that
-    /// is asked for.
+    /// Prints the trace at this path as a trace of the plain format, if the program could open it. If `verbose` is
+    /// true, it says more about a bad line. Returns the status with which the program ends.
     fn lower<R: Read + Drop, W: Write, E: Write>(
         &self,
         path: &str,
@@ -41,8 +42,9 @@ pub trait Commands {
         err: &mut E,
     ) -> u8;
 
-    /// Plays a trace on the machine of the manifest of which these are the bytes, and counts what comes of its operations, behind
-    /// what was counted before. It tells nothing of what is wrong, which `perform` does.
+    /// Plays a trace on the machine of a manifest, and adds the outcomes of its operations to the counts. `manifest`
+    /// has the bytes of the manifest. It reports no fault, since `perform` reports each one. Fails if there is no
+    /// memory.
     fn count<R: Read + Drop>(
         &self,
         options: &PlayOptions<'_>,
@@ -51,10 +53,10 @@ pub trait Commands {
         counts: &mut Counts,
     ) -> Result<(), AllocError>;
 
-    /// Answers how many guards a trace has, which can be read to its end and ends at a line: `perform` tells so many where all
-    /// are met.
+    /// Returns the number of guards of a trace. The trace must be readable to its end, and its last line must be whole.
+    /// `perform` reports this number if all guards pass.
     fn guards<R: Read + Drop>(&self, trace: R) -> io::Result<u64>;
 
-    /// Writes the help or the version that was asked for.
+    /// Writes the help or the version that the user requests, and returns the status with which the program ends.
     fn show<T: Display, W: Write, E: Write>(&self, help: &T, out: &mut W, err: &mut E) -> u8;
 }

@@ -1,5 +1,5 @@
 // SPDX-License-Identifier: MIT OR Apache-2.0
-//! What a trace is read from, and an expected text.
+//! The input of a trace, or of an expected text.
 use std::io::{self, Read};
 
 /// A file, or standard input.

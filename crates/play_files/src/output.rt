@@ -1,9 +1,9 @@
 // SPDX-License-Identifier: MIT OR Apache-2.0
-//! What output is written to, and what is told, where a reader of a pipe may be gone.
+//! The output and the messages of the program, where the reader of a pipe may be gone.
 use std::cell::Cell;
 use std::io::{self, ErrorKind, Write};
 
-/// What output is written to. It notes where it is found that nobody reads it.
+/// The output of the program. It notes if a write shows that nobody reads the output.
 #[derive(Drop)]
 pub(crate) struct Output<'a, W> {
     pub(crate) out: W,
@@ -34,7 +34,7 @@ impl<W> Output<'_, W> {
     }
 }
 
-/// What is told. Once it was found that nobody reads the output, nothing is.
+/// The messages of the program. After a write has shown that nobody reads the output, it drops each message.
 #[derive(Drop)]
 pub(crate) struct Told<'a, 'b, E> {
     pub(crate) err: &'a mut E,

@@ -1,20 +1,20 @@
 // SPDX-License-Identifier: MIT OR Apache-2.0
-//! What came of traces that are tested, printed one by one.
+//! Prints the outcomes of tested traces one by one.
 use std::fmt::{self, Display};
 use std::io::{self, Write};
 
-/// What came of a trace.
+/// The outcome of a trace.
 #[derive(Clone, Copy)]
 pub(crate) enum Outcome {
-    /// It was played to its end, and so many guards were met, which are all.
+    /// The trace was played to its end, and this number of guards passed, which are all of its guards.
     Passed(u64),
-    /// So it was too, and it has no guard.
+    /// The trace was played to its end, but it has no guard, which the options do not allow.
     Unguarded,
-    /// It ended with this status.
+    /// The trace ended with this status.
     Failed(u8),
 }
 
-/// What came of the traces so far.
+/// The outcomes of the traces so far.
 #[derive(Drop)]
 pub(crate) struct Report {
     tap: bool,
@@ -38,7 +38,7 @@ impl Report {
         Ok(())
     }
 
-    /// Prints what came of the trace of this title, of which this was told.
+    /// Prints the outcome of the trace with this title, and its messages.
     pub(crate) fn put<W: Write>(
         &mut self,
         title: &str,
@@ -66,7 +66,7 @@ impl Report {
         out.flush()
     }
 
-    // The test point of a trace, and under it what was told.
+    // Prints the test point of a trace, and the messages of the trace below it.
     fn put_point<W: Write>(
         &self,
         title: &str,
@@ -91,12 +91,12 @@ impl Report {
         out.flush()
     }
 
-    /// Prints what was counted.
+    /// Prints the counts.
     pub(crate) fn put_counts<W: Write>(&self, counts: &[u8], out: &mut W) -> io::Result<()> {
         put_lines(if self.tap { "# " } else { "" }, counts, out)
     }
 
-    // What stands in front of each line of what was told of a trace.
+    // Returns the text at the beginning of each line of a trace's messages.
     fn front_of_told(&self) -> &'static str {
         if self.tap { "# " } else { "  " }
     }
@@ -106,7 +106,8 @@ impl Report {
     }
 }
 
-// The line of a trace, and under it what was told. Of one that passed the last line says what stands in the trace's own.
+// Prints the line of a trace, and the messages of the trace below it. If the trace passed, it leaves out the last
+// message, since the line of the trace already says the number of guards.
 fn put_line<W: Write>(title: &str, outcome: Outcome, told: &[u8], out: &mut W) -> io::Result<()> {
     match outcome {
         Outcome::Passed(1) => writeln!(out, "{title}: ok, 1 guard")?,
@@ -128,7 +129,7 @@ fn without_last_line(text: &[u8]) -> &[u8] {
     }
 }
 
-/// A name whose control characters are escaped, so that it stands in one line.
+/// A name whose control characters are escaped, so that it needs only one line.
 #[derive(Clone, Copy)]
 pub(crate) struct Shown<'a>(pub(crate) &'a str);
 
@@ -163,7 +164,7 @@ impl Display for Description<'_> {
     }
 }
 
-// Writes the lines of a text, each with this in front.
+// Writes the lines of a text, each with this text before it. It leaves out empty lines.
 fn put_lines<W: Write>(front: &str, text: &[u8], out: &mut W) -> io::Result<()> {
     for line in text.split(|byte| *byte == b'\n') {
         if !line.is_empty() {

@@ -1,5 +1,5 @@
 // SPDX-License-Identifier: MIT OR Apache-2.0
-//! The program: its words are read, its files opened, and both handed on.
+//! The program: reads its words, opens its files, and passes both to the code that does the command.
 use crate::commands::{Commands, Files};
 use crate::input::Input;
 use crate::output::{Output, Told};
@@ -12,18 +12,19 @@ use std::env::Env;
 use std::io::{BufWriter, IsTerminal, Read, Write};
 use std::{env, fs, io};
 
-/// How many bytes of output are gathered before they are written.
+/// The number of bytes of output that the program gathers before it writes them.
 const OUTPUT: usize = 65536;
 
-/// The status with which the program ends where nobody reads its output: that which a shell has of one that SIGPIPE ends.
+/// The status with which the program ends if nobody reads its output. A shell has the same status for a program that
+/// SIGPIPE ends.
 const CLOSED: u8 = 141;
 
-/// With what a session at a terminal begins.
+/// The greeting with which a session at a terminal begins.
 const GREETING: &str =
     "ffaplay: session: each line runs when you press Enter. Type help for the forms of a line, or quit to end the session";
 
-/// Runs the program with these standard streams, and answers the status with which it ends. Where nobody reads the output,
-/// nothing is told of that.
+/// Runs the program with these standard streams, and returns the status with which it ends. If nobody reads the output,
+/// it writes no message about that.
 pub fn run<
     H: AllocGlobal + Env + fs::Files + Print + Eprint + Clone + Drop,
     S: Read + IsTerminal + Copy + Drop,
@@ -52,13 +53,14 @@ pub fn run<
     }
 }
 
-// Where not even the message can be written, the status alone tells.
+// Writes the message that there is no memory, and returns the status. If the message cannot be written, only the status
+// says so.
 fn no_memory<E: Write>(err: &mut E) -> u8 {
     let _ = writeln!(err, "ffaplay: no memory");
     3
 }
 
-// Reads the command line, and does what it asks for. Who reads what is told at a terminal is told more.
+// Reads the command line, and does its command. If `is_seen` is true, a terminal shows the messages, and they say more.
 fn status<
     H: AllocGlobal + Env + fs::Files + Print + Eprint + Clone + Drop,
     S: Read + IsTerminal + Copy + Drop,
@@ -103,7 +105,8 @@ fn status<
     }
 }
 
-/// Opens the files, and does what was asked for.
+/// Opens the files of a request, does its command, and returns the status with which the program ends. Fails if there
+/// is no memory.
 pub(crate) fn carry_out<
     H: AllocGlobal + fs::Files + Eprint + Drop,
     S: Read + Copy + Drop,
@@ -130,13 +133,13 @@ pub(crate) fn carry_out<
         expected: text_of(alloc, expected, None)?,
         reason,
     };
-    // With no room nothing is gathered: each write goes to standard output at once.
+    // With no room the program gathers no output: each write goes to standard output at once.
     let room = if request.answers_at_once() { 0 } else { OUTPUT };
     let mut out = BufWriter::with_capacity(alloc, room, out).map_err(|_| AllocError)?;
     Ok(perform(commands, request, files, &mut out, err))
 }
 
-// The path of a trace that is to be printed in the plain format.
+// Returns the path of the trace that the program must print in the plain format, if the request is for that.
 fn lowered<'a>(request: &Request<'a>) -> Option<&'a str> {
     match *request {
         Request::Lower { trace, .. } => Some(trace),
@@ -144,7 +147,7 @@ fn lowered<'a>(request: &Request<'a>) -> Option<&'a str> {
     }
 }
 
-// Whether it is a session over standard input.
+// Whether a request is for a session over standard input.
 fn is_session(request: &Request<'_>) -> bool {
     request.trace() == Some(STANDARD_INPUT)
         && matches!(
@@ -159,7 +162,7 @@ fn is_session(request: &Request<'_>) -> bool {
         )
 }
 
-/// How the trace is played that is in words, where it is.
+/// Returns how to play the trace of a request in words, or `None` if it is not in words.
 pub(crate) fn wording_of<'a, H>(rt: &'a H, request: &Request<'_>) -> Option<Wording<'a, H>> {
     match *request {
         Request::Play(options) if options.words => Some(Wording {
@@ -176,7 +179,8 @@ pub(crate) fn wording_of<'a, H>(rt: &'a H, request: &Request<'_>) -> Option<Word
     }
 }
 
-/// What a reader reads, where there is one, which is in words where it is said how these are played.
+/// Returns the text of a reader, if there is a reader. The text is in words if `wording` says how to play these. Fails
+/// if there is no memory.
 pub(crate) fn text_of<'a, H: Eprint + Drop, R: Read + Drop>(
     alloc: Global,
     reader: Option<R>,
@@ -201,7 +205,7 @@ fn perform<C: Commands, R: Read + Drop, W: Write, E: Write>(
     }
 }
 
-/// What reads the file at a path, where one is named.
+/// Opens the file at a path, or standard input, and returns its reader. Returns `None` if there is no path.
 pub(crate) fn open<H: fs::Files, S: Read + Drop>(
     rt: &H,
     input: S,
@@ -214,7 +218,7 @@ pub(crate) fn open<H: fs::Files, S: Read + Drop>(
     }
 }
 
-/// The bytes of the file at a path, where one is named.
+/// Returns the bytes of the file at a path, or of standard input. Returns `None` if there is no path.
 pub(crate) fn read_whole<H: AllocGlobal + fs::Files, S: Read + Drop>(
     rt: &H,
     input: S,
@@ -232,7 +236,8 @@ pub(crate) fn read_whole<H: AllocGlobal + fs::Files, S: Read + Drop>(
     }
 }
 
-/// What was read, or nothing where it can't be read. The first reason for that stays.
+/// Returns the result of a read, or `None` if the read failed. Then `reason` becomes the reason, unless it has an
+/// earlier one. Fails only if the read failed because there is no memory.
 pub(crate) fn unless_no_memory<T>(
     read: io::Result<Option<T>>,
     reason: &mut Option<io::ErrorKind>,

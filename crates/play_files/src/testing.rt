@@ -1,5 +1,5 @@
 // SPDX-License-Identifier: MIT OR Apache-2.0
-//! Traces that are tested: all of some folders, each played with its guards.
+//! Tests all traces of some folders. It plays each trace with its guards.
 use crate::commands::Commands;
 use crate::flags::with_own_flags;
 use crate::report::{Outcome, Report, Shown};
@@ -12,7 +12,7 @@ use std::alloc::{AllocError, Global};
 use std::io::{ErrorKind, Read, Write};
 use std::{fs, io};
 
-/// How the text of a trace is made that is tested, and compared with its guards alone.
+/// The options for the text of a tested trace, which is compared only with its guards.
 const TEXT: TextOptions = TextOptions {
     line_buffered: false,
     number: false,
@@ -29,7 +29,8 @@ struct Trace<'a> {
 }
 
 impl Trace<'_> {
-    // The name by which it is told, behind its folder's where there are several, in one line.
+    // Returns the name of the trace for messages, in one line. The name of its folder comes before it if there are
+    // several folders.
     fn title(&self, alloc: Global, has_folder: bool) -> Result<String, AllocError> {
         let (folder, name) = (Shown(self.folder), Shown(self.name.as_str()));
         if has_folder {
@@ -40,11 +41,16 @@ impl Trace<'_> {
     }
 }
 
-/// Plays each trace of the folders on the machine of its manifest, past guards that aren't met, and prints what came of it: a
-/// line for each in the order of the folders and of their names, with how many guards were met, under one that failed what was
-/// told of it, and how many passed. A trace without a guard fails, unless that is allowed. Where that is asked for, it prints
-/// behind that what all of them reach. All folders are read first: where one can't be, or has no trace, the first such one is
-/// told, and nothing is played. Where there is no memory for what is told of a trace, there is none for the command.
+/// Plays each trace of the folders on the machine of its manifest, and plays on after guards that fail. Returns the
+/// status with which the program ends.
+///
+/// It prints a line for each trace, in the order of the folders and of the names. The line says how many guards passed.
+/// Below the line of a trace that failed, it prints the trace's messages. Then it prints how many traces passed and
+/// failed. A trace without a guard fails, unless the options allow this. If the options request counts, it prints after
+/// that what all traces together reach.
+///
+/// It reads all folders first. If some folder cannot be read or has no trace, it reports the first such folder, and
+/// plays nothing. Fails if there is no memory, which includes memory for a trace's messages.
 pub(crate) fn test<
     H: AllocGlobal + fs::Files + Eprint + Clone + Drop,
     S: Read + Copy + Drop,
@@ -74,8 +80,8 @@ pub(crate) fn test<
     }
 }
 
-// The traces of all folders, each folder's in the order of their names. The first folder that can't be read, or has none, is
-// told, and then nothing comes back.
+// Returns the traces of all folders. The traces of one folder are in the order of their names. If a folder cannot be
+// read or has no trace, it reports the first such folder and returns `None`.
 fn traces_of<'a, H: AllocGlobal + fs::Files + Clone + Drop, E: Write>(
     rt: &H,
     folders: &[&'a str],
@@ -110,7 +116,7 @@ fn push_traces<'a>(
     Ok(())
 }
 
-// Plays them one by one, and prints what came of each, and of all.
+// Plays the traces one by one, and prints the outcome of each trace, and of all traces.
 fn play_all<
     H: AllocGlobal + fs::Files + Eprint + Clone + Drop,
     S: Read + Copy + Drop,
@@ -143,7 +149,7 @@ fn play_all<
     out.flush()
 }
 
-// What was told of a trace, and whether there was memory for all of it.
+// The messages of a trace, and whether there was memory for all of them.
 #[derive(Drop)]
 struct Kept {
     text: Vec<u8>,
@@ -180,7 +186,7 @@ impl Write for Kept {
     }
 }
 
-// Plays a trace, and answers what came of that. Where that is asked for, it is counted too.
+// Plays a trace, and returns its outcome. If the options request counts, it counts the outcomes of the operations too.
 fn play_one<H: AllocGlobal + fs::Files + Eprint + Clone + Drop, S: Read + Copy + Drop, C: Commands>(
     rt: &H,
     input: S,
@@ -212,9 +218,9 @@ fn play_one<H: AllocGlobal + fs::Files + Eprint + Clone + Drop, S: Read + Copy +
     }
 }
 
-// Returns the options of the machine of a trace. The flags of the trace replace the same flags of the command line. If a
-// flag is wrong, the function writes the message to `told`, and returns `None`. If the program cannot read the trace, the
-// play of the trace reports this.
+// Returns the options of the machine of a trace. The flags of the trace replace the same flags of the command line. If
+// a flag is wrong, the function writes the message to `told`, and returns `None`. If the program cannot read the trace,
+// the play of the trace reports this.
 fn machine_of<H: AllocGlobal + fs::Files>(
     rt: &H,
     path: &str,
@@ -237,7 +243,8 @@ fn machine_of<H: AllocGlobal + fs::Files>(
     }
 }
 
-// What came of a trace that was played to its end, and met all of so many guards. Where it can't be read again, it failed.
+// Returns the outcome of a trace that was played to its end, and whose guards all passed. `guards` is their number. If
+// the trace cannot be read again, it failed.
 fn outcome_of(guards: io::Result<u64>, options: &TestOptions<'_>) -> io::Result<Outcome> {
     match guards {
         Ok(0) if !options.allow_unguarded => Ok(Outcome::Unguarded),
@@ -247,7 +254,7 @@ fn outcome_of(guards: io::Result<u64>, options: &TestOptions<'_>) -> io::Result<
     }
 }
 
-// How many guards the trace has, which was played to its end.
+// Returns the number of guards of a trace that was played to its end.
 fn guards_in<H: AllocGlobal + fs::Files, S: Read + Copy + Drop, C: Commands>(
     rt: &H,
     input: S,
@@ -260,7 +267,8 @@ fn guards_in<H: AllocGlobal + fs::Files, S: Read + Copy + Drop, C: Commands>(
     }
 }
 
-// Counts what comes of a trace's operations. Files that can't be read are told where it is played.
+// Counts the outcomes of a trace's operations. It reports no file that cannot be read, since the play of the trace
+// does.
 fn count_one<H: AllocGlobal + fs::Files + Eprint + Drop, S: Read + Copy + Drop, C: Commands>(
     rt: &H,
     input: S,
@@ -281,7 +289,7 @@ fn count_one<H: AllocGlobal + fs::Files + Eprint + Drop, S: Read + Copy + Drop, 
     }
 }
 
-// A play of a trace past guards that aren't met, on a machine that is built so.
+// Returns the options of a play of a trace, on a machine with these options, that plays on after guards that fail.
 fn play_of<'a>(
     manifest: &'a str,
     trace: &'a str,
@@ -303,10 +311,10 @@ fn play_of<'a>(
     }
 }
 
-// What the names of traces end in.
+// The ending of the names of traces.
 const ENDING: &str = ".trace";
 
-// The names of the traces in a folder, without their endings, in order.
+// Returns the names of the traces in a folder, without their endings, in order.
 fn names_in<H: AllocGlobal + fs::Files + Clone + Drop>(
     rt: &H,
     folder: &str,

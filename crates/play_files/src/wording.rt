@@ -1,5 +1,5 @@
 // SPDX-License-Identifier: MIT OR Apache-2.0
-//! A trace in words, read as the trace of the plain format to which it comes.
+//! Reads a trace in words as a trace of the plain format.
 ghost use Rattle.std.specs.Counts.{IsPrefixLen};
 ghost use Rattle.std.specs.Result.{IfOk};
 
@@ -9,16 +9,16 @@ use play_words::{LowerError, lower_line};
 use std::alloc::{AllocError, Allocator};
 use std::io::{self, BufRead, BufReader, ErrorKind, Read};
 
-/// How a trace in words is played.
+/// The way in which a trace in words is played.
 #[derive(Drop)]
 pub(crate) struct Wording<'a, H> {
-    /// So many processors run the machine, or one runs it alone.
+    /// The number of processors that run the machine, or `None` if only one processor runs it.
     pub(crate) processors: Option<usize>,
-    /// What tells, in a session, of words that say no call.
+    /// The writer of messages about words that are no call. Only a session has this writer.
     pub(crate) session: Option<&'a H>,
 }
 
-/// A text, or a trace in words that is read as one of the plain format.
+/// A text, or a trace in words that is read as a trace of the plain format.
 #[derive(Drop)]
 pub(crate) enum Text<'a, H, R, A: Allocator> {
     Plain(R),
@@ -26,7 +26,8 @@ pub(crate) enum Text<'a, H, R, A: Allocator> {
 }
 
 impl<'a, H: Eprint + Drop, R: Read + Drop, A: Allocator + Copy> Text<'a, H, R, A> {
-    /// What a reader reads, which is in words where it is said how these are played.
+    /// Returns the text of a reader. The text is in words if `wording` says how to play these. Fails if there is no
+    /// memory.
     pub(crate) fn new(
         alloc: A,
         reader: R,
@@ -62,18 +63,20 @@ impl<H: Eprint + Drop, R: Read + Drop, A: Allocator + Copy> Read for Text<'_, H,
     }
 }
 
-/// What reads a trace in words line by line. A line that comes to none of the plain format stays as it is, and is bad there too, so
-/// that what is wrong with it is told in the line as it was written. Only a session, which tells that itself, gets an empty
-/// line for one whose words say no call: that is told here.
+/// A reader of a trace in words, which reads line by line. A line that has no form in the plain format stays as it is,
+/// and is bad there too. So the message about the line shows it as the user wrote it.
+///
+/// In a session, this reader itself reports a line whose words are no call. The session then gets an empty line instead
+/// of it.
 #[derive(Drop)]
 pub(crate) struct InWords<'a, H, R, A: Allocator> {
     alloc: A,
     reader: BufReader<R, A>,
     processors: Option<usize>,
     session: Option<&'a H>,
-    // How many lines were read.
+    // The number of lines that were read.
     number: u64,
-    // The line that was read last, in the plain format, and how many bytes of it were taken.
+    // The last line that was read, in the plain format, and the number of bytes of it that were taken.
     lowered: Vec<u8, A>,
     taken: usize,
 }
@@ -117,8 +120,8 @@ impl<H: Eprint + Drop, R: Read + Drop, A: Allocator + Copy> InWords<'_, H, R, A>
         Ok(())
     }
 
-    // Tells, in a session, what is wrong with a line whose words say no call, and answers whether it did. The session tells of a
-    // CR, and of a line for which there is no memory.
+    // Reports what is wrong with a line whose words are no call, in a session, and returns whether it did. The session
+    // reports a CR, and a line for which there is no memory.
     fn tells(&self, line: &[u8]) -> bool {
         let Some(rt) = self.session else {
             return false;

@@ -10,14 +10,11 @@ use Rattle.play_syntax.specs.TraceLines.{Line, feed, line_in, is_good, is_line, 
 use Rattle.play_syntax.specs.TraceText.{line_after, after, after_all}
 use Rattle.play_player.proofs.Runs.{joined-append}
 use Rattle.play_syntax.specs.Output.{TookFront}
-use Rattle.play_syntax.specs.declared.output.PlayError.{PlayError}
-use Rattle.play_syntax.specs.declared.output.PlayError.TheVariants.{Read, Write, NoMemory, BadLine}
-use Rattle.play_forms.specs.Followed.{Followed, EndsBadly, FailsToWrite, PlayedIn}
+use Rattle.play_forms.specs.Followed.{Followed, EndsBadly, FailsToWrite}
 use Rattle.play_forms.specs.Forms.{line_text_in, text_of_in, text_in}
 use Rattle.play_forms.proofs.Cuts.{cuts_none}
 use Rattle.play_forms.proofs.CutOff.{cuts_printed}
-use Rattle.play_forms.specs.Reading.{IsBadLine, TakesLine}
-use Rattle.play_forms.specs.Steps.{PrintsLine}
+use Rattle.play_forms.specs.Reading.{IsBadLine}
 use Rattle.play_forms.specs.declared.form.Form.{Form}
 use Rattle.play_forms.proofs.Behind.{meant-behind}
 
@@ -83,20 +80,3 @@ module _ (form : Form) (start mid : Bench) (had has : Option (List ℕ)) (lines 
     written = subst (Appends held between) f.said written;
     began = subst (TookFront between holds) (own_text line meant is) began;
   }
-
-  -- what was read isn't taken
-  pub untaken_played : (e : PlayError) (then : Option (List ℕ)) (bytes : List ℕ) → TakesLine (processors_of start) has then bytes number (Err e)
-      → (held holds : Option (List ℕ)) → Appends held holds text → PlayedIn {X = Unit {0}} form start mid held holds had then bytes (Err e)
-  untaken_played Read then bytes r held holds written = (has, lines, text, f, r, written)
-  untaken_played Write then bytes r held holds written = absurd r
-  untaken_played NoMemory then bytes r held holds written = tt
-  untaken_played (BadLine n) then bytes (is, bad) held holds written =
-      (text, subst (EndsBadly form start mid had text bytes) (sym is) (ends_at bytes bad), written)
-
-  -- what was done isn't written whole
-  pub unwritten_played : (e : PlayError) (now : Bench) (then : Option (List ℕ)) (line : List ℕ) (meant : Line) → Consumes has then (line ++ feed ∷ []) → has_no_feed line ≡ true → Some meant ≡ line_in (processors_of start) line
-      → (held between holds : Option (List ℕ)) → Appends held between text → PrintsLine {X = Unit {0}} form mid now number meant between holds (Err e)
-      → PlayedIn {X = Unit {0}} form start now held holds had then line (Err e)
-  unwritten_played Write now then line meant read single is held between holds written (next, began) = fails_to_write now then line meant read single is next held between holds written began
-  unwritten_played NoMemory now then line meant read single is held between holds written r = tt
-  unwritten_played _ now then line meant read single is held between holds written r = absurd r

@@ -10,6 +10,7 @@ pub mod Cuts
 pub mod Dressing
 pub mod Follows
 pub mod Guarding
+pub mod Listens
 pub mod Meetings
 pub mod Plain
 pub mod PrintedWords

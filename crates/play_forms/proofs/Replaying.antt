@@ -1,10 +1,10 @@
 -- SPDX-License-Identifier: MIT OR Apache-2.0
 -- What is written of a trace with the guards of its own play: its guards are met, and it plays as the trace.
-use Rattle.std.proofs.Common.{◌≡◌, ℕ, ◌+◌, true, false, List, [], ◌∷◌, ◌++◌, length, map, take, drop, Option, None, Some, Err, inl, inr, sym, ap, ◌∙◌, subst, append_assoc, append-nil, refl, ◌==◌, ◌⊎◌, not, nat_eq, position, is_some, bytes_eq}
+use Rattle.std.proofs.Common.{◌≡◌, ℕ, ◌+◌, true, false, List, [], ◌∷◌, ◌++◌, length, map, take, drop, Option, None, Some, Ok, Err, inl, inr, sym, ap, ◌∙◌, subst, append_assoc, append-nil, refl, ◌==◌, ◌⊎◌, not, nat_eq, position, is_some, bytes_eq}
 use Rattle.std.specs.List.{list_all, take_while}
 use Rattle.std.specs.Option.{option_map_or}
-use Rattle.std.specs.Io.KnownBytes.{Appends, Consumes}
-use Rattle.std.proofs.KnownBytes.{Appends-trans}
+use Rattle.std.specs.Io.KnownBytes.{Appends}
+use Rattle.std.proofs.KnownBytes.{Appends-nil}
 use Rattle.std.proofs.lemmas.Bool.{and_parts, and_from, cases_Bool, eqb-true, not-true, or_left}
 use Rattle.std.proofs.lemmas.List.Folds.{list_all-append}
 use Rattle.std.proofs.lemmas.Slice.Eq.{bytes_eq-Decides}
@@ -12,21 +12,22 @@ use Rattle.std.proofs.Math.Seq.{take-length}
 use Rattle.ffa_playable.specs.Bench.{Bench, processors_of}
 use Rattle.play_syntax.specs.TraceLines.{Line, operate, show, audit, skip, turn, interrupt, feed, hash, has_no_feed, is_good, is_line, are_lines, joined, line_in, line_of}
 use Rattle.play_syntax.specs.TraceText.{after, after_all, line_after, line_text, text, text_of}
-use Rattle.play_syntax.specs.Output.{TookFront}
+use Rattle.play_syntax.specs.Output.{Writes}
+use Rattle.play_syntax.specs.Lines.{meant}
 use Rattle.play_player.proofs.Runs.{joined-append}
 use Rattle.play_syntax.specs.declared.output.PlayError.{PlayError}
-use Rattle.play_syntax.specs.declared.output.PlayError.TheVariants.{Read, Write, NoMemory, BadLine}
-use Rattle.play_forms.specs.Followed.{Followed}
-use Rattle.play_forms.specs.Forms.{plain, line_text_in}
+use Rattle.play_forms.specs.Forms.{plain}
 use Rattle.play_forms.specs.Guards.{AreMet, IsUnasked, is_guard}
 use Rattle.play_forms.specs.Patterns.{line_came, meets}
-use Rattle.play_forms.specs.Reading.{TakesLine}
-use Rattle.play_forms.specs.Recorded.{RecordedIn, RecordsLine, Replays, guard_for, line_recorded, lines_in, onto_line, recorded}
+use Rattle.play_forms.specs.Listening.{Answers, IsDoneAfter, WritesEach}
+use Rattle.play_forms.specs.Recorded.{RecordsLines, Replays, guard_for, line_recorded, lines_in, onto_line, recorded}
+use Rattle.play_forms.specs.declared.listening.Event.{Event}
 use Rattle.play_forms.specs.declared.patterns.Came.{Came}
 use Rattle.play_forms.proofs.Behind.{meant-behind}
 use Rattle.play_forms.proofs.CutOff.{cuts_text}
-use Rattle.play_forms.proofs.Follows.{after_one, ends_at, followed_more}
+use Rattle.play_forms.proofs.Follows.{after_one}
 use Rattle.play_forms.proofs.Guarding.{guards_more, met_more, met_none, unasked_loud, unasked_more}
+use Rattle.play_forms.proofs.Listens.{each_after, with_fact, writes_less, writes_more}
 use Rattle.play_forms.proofs.Plain.{plain_text}
 use Rattle.play_forms.proofs.WordsFit.{all_taken, ends_line}
 use Rattle.play_syntax.proofs.Cutting.{position_none}
@@ -246,40 +247,30 @@ recorded-last s (l ∷ lines) line =
     ap (λ ls. line_recorded l (text_of s l) ++ ls) (recorded-last (after s l) lines line)
     ∙ sym (append_assoc (line_recorded l (text_of s l)) (recorded (after s l) lines) (line_recorded line (text_of (after_all (after s l) lines) line)))
 
-module _ (start mid : Bench) (had has : Option (List ℕ)) (lines : List (List ℕ)) (said : List ℕ) (f : Followed plain start mid had has lines said) (number : ℕ) (count : number ≡ 1 + length lines) where
-  -- what is written of a line more
-  pub own_record : (line : List ℕ) (meant : Line) → Some meant ≡ line_in (processors_of start) line → line_recorded line (line_text mid meant) ≡ line_recorded line (text_of (after_all start lines) line)
-  own_record line meant is = ap (line_recorded line) (text_meant mid line meant (meant-behind start mid lines f.state line (Some meant) is) ∙ ap (λ s. text_of s line) f.state)
+pub records_none : (Stop : Type 0) (start : Bench) (held : Option (List ℕ)) → RecordsLines {Stop = Stop} start [] held held (Ok None)
+records_none Stop start held = (Appends-nil held, replays start [] refl)
 
-  pub written_more : (held between holds : Option (List ℕ)) (line : List ℕ) (meant : Line) → Some meant ≡ line_in (processors_of start) line → Appends held between (joined (recorded start lines))
-      → Appends between holds (joined (line_recorded line (line_text mid meant))) → Appends held holds (joined (recorded start (lines ++ line ∷ [])))
-  written_more held between holds line meant is before behind =
-      let own = line_recorded line (text_of (after_all start lines) line) in
-      subst (Appends held holds) (sym (ap joined (recorded-last start lines line) ∙ joined-append (recorded start lines) own))
-      (Appends-trans held between holds (joined (recorded start lines)) (joined own) before (subst (λ ls. Appends between holds (joined ls)) (own_record line meant is) behind))
+-- what is written of a line more
+module _ (start now : Bench) (lines : List (List ℕ)) (event : Event) (done : IsDoneAfter start now lines event) where
+  replays_more : Replays start (lines ++ event.bytes.now ∷ [])
+  replays_more = replays start (lines ++ event.bytes.now ∷ []) (each_after start now lines event done)
 
-  -- at what isn't taken
-  pub untaken_recorded : (e : PlayError) (then : Option (List ℕ)) (bytes : List ℕ) → TakesLine (processors_of start) has then bytes number (Err e)
-      → (held holds : Option (List ℕ)) → Appends held holds (joined (recorded start lines)) → RecordedIn {X = Unit {0}} start mid held holds had then bytes (Err e)
-  untaken_recorded Read then bytes r held holds written = (has, lines, said, f, r, written, replays start lines f.each)
-  untaken_recorded Write then bytes r held holds written = absurd r
-  untaken_recorded NoMemory then bytes r held holds written = tt
-  untaken_recorded (BadLine n) then bytes (is, bad) held holds written =
-      (said, ends_at plain start mid had has lines said f n (is ∙ count) bytes bad, written, replays start lines f.each)
+  own_record : line_recorded event.bytes.now event.text.now ≡ line_recorded event.bytes.now (text_of (after_all start lines) event.bytes.now)
+  own_record =
+      let mid = after_all start lines in
+      ap (line_recorded event.bytes.now) (done.text ∙ text_meant mid event.bytes.now (meant event.line) (meant-behind start mid lines refl event.bytes.now (Some (meant event.line)) done.line))
 
-  -- at what isn't written whole
-  pub unwritten_recorded : (e : PlayError) (now : Bench) (then : Option (List ℕ)) (line : List ℕ) (meant : Line) → Consumes has then (line ++ feed ∷ []) → has_no_feed line ≡ true → Some meant ≡ line_in (processors_of start) line
-      → (held between holds : Option (List ℕ)) → Appends held between (joined (recorded start lines)) → RecordsLine {X = Unit {0}} mid now line meant between holds (Err e)
-      → RecordedIn {X = Unit {0}} start now held holds had then line (Err e)
-  unwritten_recorded Write now then line meant read single is held between holds written (next, began) = record {
-    left = then;
-    lines = lines;
-    last = line;
-    said = said ++ line_text_in plain number mid meant;
-    between = between;
-    followed = followed_more plain start mid had has lines said f number count now then line meant (line_text_in plain number mid meant) read single is next refl;
-    written = written;
-    began = subst (λ ls. TookFront between holds (joined ls)) (own_record line meant is) began;
-  }
-  unwritten_recorded NoMemory now then line meant read single is held between holds written r = tt
-  unwritten_recorded _ now then line meant read single is held between holds written r = absurd r
+  whole : joined (recorded start (lines ++ event.bytes.now ∷ [])) ≡ joined (recorded start lines) ++ joined (line_recorded event.bytes.now event.text.now)
+  whole =
+      let own = line_recorded event.bytes.now (text_of (after_all start lines) event.bytes.now) in
+      ap joined (recorded-last start lines event.bytes.now) ∙ joined-append (recorded start lines) own ∙ ap (λ ls. joined (recorded start lines) ++ joined ls) (sym own_record)
+
+  pub records_more : (Stop : Type 0) (began held holds : Option (List ℕ)) → RecordsLines {Stop = Stop} start lines began held (Ok None) → Appends held holds (joined (line_recorded event.bytes.now event.text.now))
+      → RecordsLines {Stop = Stop} start (lines ++ event.bytes.now ∷ []) began holds (Ok None)
+  records_more Stop began held holds before behind =
+      (writes_more Stop (λ all. joined (recorded start all)) lines event.bytes.now (joined (line_recorded event.bytes.now event.text.now)) whole began held holds before.0 behind, replays_more)
+
+  pub records_less : (X Stop : Type 0) (began held holds : Option (List ℕ)) → RecordsLines {Stop = Stop} start lines began held (Ok None) → (e : PlayError)
+      → Writes {X = X} held holds (joined (line_recorded event.bytes.now event.text.now)) (Err e) → Answers (RecordsLines {Stop = Stop} start (lines ++ event.bytes.now ∷ []) began holds) (Err e)
+  records_less X Stop began held holds before e r =
+      with_fact (WritesEach {Stop = Stop} (λ all. joined (recorded start all)) (lines ++ event.bytes.now ∷ []) began holds) e (writes_less X Stop (λ all. joined (recorded start all)) lines event.bytes.now (joined (line_recorded event.bytes.now event.text.now)) whole began held holds before.0 e r) replays_more

@@ -45,18 +45,3 @@ pub record FailsToWrite (form : Form) (start now : Bench) (held holds had : Opti
   pub followed : Followed form start now had left (lines ++ last ∷ []) text
   pub written : Appends held between (text_in form 1 start lines)
   pub began : TookFront between holds (text_of_in form (1 + length lines) (after_all start lines) last)
-
--- A play that writes each text: whole, or up to a bad line, or as far as could be read, where each line that was read
--- whole was done, or as far as could be written. Of what it leaves where there is no memory nothing is said.
-abbrev pub PlayedIn : {X : Type 0} → Form → Bench → Bench → (held holds had has : Option (List ℕ)) → List ℕ
-    → Result X PlayError → Type 0
-PlayedIn form start now held holds had has bytes (Ok _) =
-    (left : Option (List ℕ)) × (lines : List (List ℕ)) × (text : List ℕ)
-    × Followed form start now had left lines text × IsAtEnd left × Appends held holds text
-PlayedIn form start now held holds had has bytes (Err (BadLine n)) =
-    (text : List ℕ) × EndsBadly form start now had text bytes n × Appends held holds text
-PlayedIn form start now held holds had has bytes (Err Read) =
-    (left : Option (List ℕ)) × (lines : List (List ℕ)) × (text : List ℕ)
-    × Followed form start now had left lines text × ReadsNoLine left has × Appends held holds text
-PlayedIn form start now held holds had has bytes (Err Write) = FailsToWrite form start now held holds had
-PlayedIn form start now held holds had has bytes (Err NoMemory) = ⊤

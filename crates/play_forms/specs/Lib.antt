@@ -7,8 +7,10 @@ pub mod Followed
 pub mod Forms
 pub mod Guards
 pub mod Hints
+pub mod Listening
 pub mod Past
 pub mod Patterns
+pub mod Printed
 pub mod Reading
 pub mod Recorded
 pub mod SessionSteps
@@ -16,4 +18,3 @@ pub mod Sessions
 pub mod Short
 pub mod Sifting
 pub mod Steps
-pub mod Telling

@@ -5,7 +5,9 @@ ghost use Rattle.play_syntax.specs.Lines.{meant};
 ghost use Rattle.play_reasons.specs.Drafts.{Puts};
 ghost use Rattle.play_reasons.specs.Reasons.{told_line};
 ghost use Rattle.play_forms.specs.Forms.{DoesLine, dressed, line_text_in, names_in, number_in, worded_in};
+ghost use Rattle.play_forms.specs.Steps.{MakesText};
 
+use crate::listening::Event;
 use crate::reason::reason_of;
 use crate::short::{put_short_data, put_short_registers};
 use ffa_model::Outcome;
@@ -65,6 +67,20 @@ pub(crate) fn make_text<P: Playable, A: Allocator + Copy>(
     text.clear();
     dress(form, number, outcome, reason, said, text);
     Ok(outcome)
+}
+
+/// Makes in `text` the text in this form of a line that was done.
+pub(crate) fn make_text_of<P: Playable, A: Allocator>(
+    player: &Player<P>,
+    form: Form,
+    event: &Event<'_>,
+    text: &mut Draft<A>,
+)
+    ensures { MakesText form player.now.bench event.now text.new }
+{
+    let reason = reason_of(player, form.explain, &event.line, event.outcome);
+    text.clear();
+    dress(form, event.number, event.outcome, reason, event.text, text);
 }
 
 /// Does a line, and makes its plain text in `said`. It answers what came of the operation that the line is.

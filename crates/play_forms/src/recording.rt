@@ -1,68 +1,57 @@
 // SPDX-License-Identifier: MIT OR Apache-2.0
-//! A trace, written with the guards of its own play.
+//! A listener that writes a trace with the guards of its own play.
 ghost use Rattle.std.specs.Prelude.{◌∷◌, [], map};
 ghost use Rattle.play_syntax.specs.TraceLines.{joined};
-ghost use Rattle.play_syntax.specs.Lines.{meant};
 ghost use Rattle.play_reasons.specs.Drafts.{Puts};
-ghost use Rattle.play_forms.specs.Recorded.{RecordedIn, RecordsLine, guard_for, line_recorded, lines_in};
+ghost use Rattle.play_forms.specs.Recorded.{RecordsLines, guard_for, line_recorded, lines_in};
 
 use crate::asking::first_feed;
-use crate::form::{Texts, do_line};
 use crate::guards::guard_text;
-use crate::read::Lines;
+use crate::listening::{Event, Listener};
 use ffa_playable::Playable;
 use play_player::Player;
 use play_reasons::Draft;
-use play_syntax::{Line, PlayError, output};
+use play_syntax::{PlayError, output};
 use std::alloc::Allocator;
-use std::io::{BufRead, Write};
+use std::convert::Infallible;
+use std::io::Write;
 
-/// Does the lines that the reader gives, one after another, and writes each as it stands, and behind it a guard for each
-/// line that it prints. Guards that the trace has are left out.
+/// Writes each line as it stands, and after it a guard for each line that it prints. It leaves out the guards of the trace,
+/// and stops no play.
 ///
-/// What is written plays as the trace does, and all its guards are met. At a bad line the lines before it were done, and
-/// where the reader fails each that was read whole, and nothing more, and what is written of them was written; where the
-/// writer fails, it took a beginning of what is written of the line that was done last. The bytes of a bad line stand in
-/// `bytes` as they stand in the trace. What is left where there is no memory is in no clause.
-pub fn record<P: Playable, A: Allocator + Copy, R: BufRead, W: Write>(
-    player: &mut Player<P>,
-    alloc: A,
-    reader: &mut R,
-    writer: &mut W,
-    bytes: &mut Vec<u8, A>,
-) -> Result<(), PlayError>
-    ensures { let held = W.contents writer.old in
-        let holds = W.contents writer.new in
-        let had = R.remaining reader.old in
-        let has = R.remaining reader.new in
-        RecordedIn player.old.bench player.new.bench held holds had has bytes.new.items result }
-{
-    let mut texts = Texts::new(alloc);
-    let mut lines = Lines::new(player.processors());
-    while let Some((_, line)) = lines.next(reader, bytes)? {
-        record_line(player, alloc, bytes, &line, writer, &mut texts)?;
-    }
-    Ok(())
+/// What it writes plays as the trace does, and all guards of what it writes are met.
+#[derive(Drop)]
+pub struct Recorder<A: Allocator> {
+    text: Draft<A>,
 }
 
-// Does the line that these bytes are, and writes it with its guards.
-fn record_line<P: Playable, A: Allocator + Copy, W: Write>(
-    player: &mut Player<P>,
-    alloc: A,
-    bytes: &[u8],
-    line: &Line,
-    writer: &mut W,
-    texts: &mut Texts<A>,
-) -> Result<(), PlayError>
-    ensures { let held = W.contents writer.old in
-        let holds = W.contents writer.new in
-        RecordsLine player.old.bench player.new.bench bytes.now (meant line.now) held holds result }
-{
-    let Texts { said, text } = texts;
-    do_line(player, alloc, line, said)?;
-    text.clear();
-    put_recorded(bytes, said, text);
-    output::write_text(writer, text.bytes()?)
+impl<A: Allocator> Recorder<A> {
+    /// A recorder that has heard no line.
+    pub fn new(alloc: A) -> Recorder<A> {
+        Recorder {
+            text: Draft::new(alloc),
+        }
+    }
+}
+
+impl<A: Allocator> Listener for Recorder<A> {
+    type Stop = Infallible;
+
+    ghost heard = { λ start lines old new held holds result. RecordsLines start lines held holds result };
+
+    fn hear<P: Playable, W: Write>(
+        &mut self,
+        player: &Player<P>,
+        event: &Event<'_>,
+        out: &mut W,
+    ) -> Result<Option<Infallible>, PlayError> {
+        self.text.clear();
+        put_recorded(event.bytes, event.text, &mut self.text);
+        match output::write_text(out, self.text.bytes()?) {
+            Ok(()) => Ok(None),
+            Err(error) => Err(error),
+        }
+    }
 }
 
 // Puts a line, with a guard for each line of what it printed, or nothing, where it is a guard.

@@ -2,13 +2,14 @@
 //! A session: a play that tells of a bad line and goes on.
 ghost use Rattle.std.specs.Prelude.{◌≡◌, ◌++◌, ◌∷◌, []};
 ghost use Rattle.ffa_playable.specs.Bench.{processors_of};
+ghost use Rattle.play_syntax.specs.Lines.{meant};
 ghost use Rattle.play_syntax.specs.TraceLines.{feed};
 ghost use Rattle.play_reasons.specs.Drafts.{Puts};
 ghost use Rattle.play_forms.specs.Sessions.{SessionIn, TellsBadLines, asks_end, bad_line_text, cause_text, joint_of};
+ghost use Rattle.play_forms.specs.Steps.{PrintsLine};
 ghost use Rattle.play_forms.specs.SessionSteps.{AnswersLine, AnswersTelling, HearsLine, HearsTelling, TellsBadLine, TellsOrLoses};
 
-use crate::form::{Form, Texts};
-use crate::playing::print_line;
+use crate::form::{Form, Texts, make_text};
 use crate::read::next_line;
 use ffa_playable::Playable;
 use play_player::Player;
@@ -118,6 +119,25 @@ fn answer_line<P: Playable, A: Allocator + Copy, W: Write, E: Write>(
         Some(line) => print_line(player, alloc, form, number, &line, writer, texts),
         None => refuse_line(processors, bytes, number, told, &mut texts.text),
     }
+}
+
+// Does a line and writes its text.
+fn print_line<P: Playable, A: Allocator + Copy, W: Write>(
+    player: &mut Player<P>,
+    alloc: A,
+    form: Form,
+    number: u64,
+    line: &Line,
+    writer: &mut W,
+    texts: &mut Texts<A>,
+) -> Result<(), PlayError>
+    ensures { let held = W.contents writer.old in
+        let holds = W.contents writer.new in
+        PrintsLine form player.old.bench player.new.bench number (meant line.now) held holds result }
+{
+    let Texts { said, text } = texts;
+    make_text(player, alloc, form, number, line, said, text)?;
+    output::write_text(writer, text.bytes()?)
 }
 
 // Tells that a line is bad, once its LF is put back, since what is wrong is looked for in a line as the trace has it.

@@ -17,8 +17,9 @@ pub use play_transcript::{AccessKind, Counts, Everyone, GenerateError, why_unrea
 use std::alloc::Allocator;
 use std::io::Write;
 
-/// Writes so many lines of a trace for the machine of a manifest, which is in its first state, and answers how often what
-/// came. The same seed gives the same lines.
+/// Writes this number of lines of a trace for the machine of a manifest, which is in its first state. Returns how often
+/// each outcome came. The same seed gives the same lines. Fails if there is no memory, or if the writer fails or takes
+/// no byte.
 // Not inlined, since its frame holds the machine.
 #[inline(never)]
 pub fn generate<M: Readable, A: Allocator + Copy, W: Write>(

@@ -1,5 +1,5 @@
 // SPDX-License-Identifier: MIT OR Apache-2.0
-//! The machine that plays what is generated.
+//! The machine on which a generator plays its scenes.
 ghost use Rattle.std.specs.Prelude.{◌<◌, length, IfSome};
 
 use ffa_model::function::FFA_ERROR;
@@ -9,13 +9,13 @@ use play_scenes::{PAGE, Stage};
 use play_transcript::{Counts, GenerateError, TraceEntry, actor_of, fit_store};
 use std::alloc::Allocator;
 
-/// A machine, the lines of a turn, and how often what came.
+/// A machine, the lines of a turn, and how often each outcome came.
 #[derive(Drop)]
 pub struct MachineStage<M: Readable, A: Allocator + Copy> {
     machine: M,
     entries: Vec<TraceEntry, A>,
     room: u64,
-    /// There was memory for each line of this turn.
+    /// Whether there was memory for each line of this turn.
     is_whole: bool,
     counts: Counts,
 }
@@ -27,7 +27,7 @@ fn is_error(outcome: &Outcome) -> bool {
     }
 }
 
-// The page at an address.
+// Returns the page at an address, or `None` if the address is outside RAM.
 fn page_at<M: Readable>(machine: &M, address: u64) -> Option<PageNo>
     ensures { IfSome result (λ page. page.0 < length (M.bench machine.now).state.pages) }
 {
@@ -42,7 +42,7 @@ fn page_at<M: Readable>(machine: &M, address: u64) -> Option<PageNo>
 }
 
 impl<M: Readable, A: Allocator + Copy> MachineStage<M, A> {
-    /// The stage of a machine of this manifest.
+    /// Returns the stage of a machine of this manifest.
     pub fn new(alloc: A, manifest: &Manifest, machine: M) -> MachineStage<M, A> {
         MachineStage {
             machine,
@@ -53,7 +53,8 @@ impl<M: Readable, A: Allocator + Copy> MachineStage<M, A> {
         }
     }
 
-    // Adds a line, and answers whether it could. Where there is no memory for one, none is added in the rest of the turn.
+    // Adds a line, and returns whether it could. If there is no memory for one line, it adds no line in the rest of the
+    // turn.
     fn add(&mut self, entry: TraceEntry) -> bool {
         if !self.is_whole || self.entries.len() as u64 >= self.room {
             return false;
@@ -62,8 +63,8 @@ impl<M: Readable, A: Allocator + Copy> MachineStage<M, A> {
         self.is_whole
     }
 
-    // Counts what came of an operation, and the check at which it was refused. That is asked behind it, since a refusal leaves
-    // the machine as it was.
+    // Counts the outcome of an operation, and the check that refused it. It asks the machine for this check after the
+    // operation, since a refusal leaves the machine as it was.
     fn count(&mut self, op: &Op, outcome: &Outcome) {
         let why = if is_error(outcome) {
             self.machine.why(op).map(|its| its.why)
@@ -73,7 +74,7 @@ impl<M: Readable, A: Allocator + Copy> MachineStage<M, A> {
         self.counts.count(op, outcome, why);
     }
 
-    /// How often what came.
+    /// Ends the stage, and returns how often each outcome came.
     pub fn into_counts(self) -> Counts {
         let MachineStage { counts, .. } = self;
         counts

@@ -30,8 +30,8 @@ pub(crate) fn write_audit<P: Playable, A: Allocator, W: Write>(
     }
 }
 
-/// The runs of the machine's pages, one behind the other: its certificate.
-pub fn runs<P: Playable, A: Allocator>(machine: &P, alloc: A) -> Result<Vec<CertRun, A>, AllocError>
+// The runs of the machine's pages, one behind the other: its certificate.
+fn runs<P: Playable, A: Allocator>(machine: &P, alloc: A) -> Result<Vec<CertRun, A>, AllocError>
     ensures { IfOk result (λ runs. runs.items ≡ certificate (P.bench machine.now).state) }
 {
     let mut runs = Vec::new(alloc);

@@ -2,7 +2,7 @@
 //! Plays traces: it does each line on a machine, and writes the text of the outcome.
 #![tactic(auto)]
 
-pub mod certificate;
+mod certificate;
 mod player;
 mod show;
 

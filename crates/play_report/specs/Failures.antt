@@ -18,7 +18,6 @@ status_of failure.Differs = 4
 status_of (failure.Unmet n) = 5
 status_of (failure.Words fault) = 64
 status_of (failure.Unfit cause) = 64
-status_of (failure.TooManyRows most) = 64
 
 -- the output can't be written, or there is no memory
 abbrev pub IsShort : Failure → Type 0

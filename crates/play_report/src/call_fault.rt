@@ -1,20 +1,20 @@
 // SPDX-License-Identifier: MIT OR Apache-2.0
-//! What is wrong with a line that names its call, and which name may have been meant.
+//! The fault of a line that names its call, and the name that its writer may have meant.
 use ffa_manifest::nearest;
 use ffa_model::CALLS;
 use play_words::{ARGUMENTS, Cause, LowerError, WordsFault, lower_line};
 use std::alloc::Allocator;
 use std::{fmt, str};
 
-/// What is wrong with a line that names its call. It prints as one line.
+/// The fault of a line that names its call. It prints as one line.
 #[derive(Clone, Copy, Debug, PartialEq, Eq)]
 pub struct CallFault {
-    /// What is wrong, and where.
+    /// The fault of the line's words, with its column.
     pub fault: WordsFault,
     near: Option<Near>,
 }
 
-// The name that a word may have been meant for, with `_64` behind it where that is meant too.
+// The name that the writer of a line may have meant by a word. `_64` follows the name if the writer meant that too.
 #[derive(Clone, Copy, Debug, PartialEq, Eq)]
 struct Near {
     name: &'static str,
@@ -22,8 +22,9 @@ struct Near {
 }
 
 impl CallFault {
-    /// What is wrong with a line, without the LF that ends it, that names its call, where something is. Where there is no memory to
-    /// read it, nothing is found, and where there is none to compare names, none is near.
+    /// Returns the fault of a line that names its call, or `None` if the line has no fault. The line is without its LF.
+    /// Returns `None` too if there is no memory to read the line. If there is no memory to compare names, the fault
+    /// suggests no name.
     pub fn of_line<A: Allocator + Copy>(alloc: A, line: &[u8]) -> Option<CallFault> {
         match lower_line(alloc, line) {
             Err(LowerError::Words(fault)) => Some(CallFault {
@@ -51,7 +52,7 @@ impl fmt::Display for CallFault {
     }
 }
 
-// The name that the word may have been meant for that is wrong.
+// Returns the name that the writer of a line may have meant by the wrong word.
 fn near_name<A: Allocator + Copy>(alloc: A, line: &[u8], fault: WordsFault) -> Option<Near> {
     let rest = line.get(fault.column.saturating_sub(1)..)?;
     let word = str::from_utf8(rest.split(|byte| *byte == b' ').next()?).ok()?;

@@ -1,5 +1,5 @@
 // SPDX-License-Identifier: MIT OR Apache-2.0
-//! What came of a trace that was made up.
+//! The outcomes of a trace that the program made up.
 ghost use Rattle.std.specs.Prelude.{IfErr};
 ghost use Rattle.play_report.specs.Failures.{IsShort};
 
@@ -9,7 +9,8 @@ use play_transcript::Counts;
 use std::alloc::Allocator;
 use std::io::Write;
 
-/// Prints how often each call and access of a trace ended in which way.
+/// Prints how often each call and access of a trace ended in which way. Fails if the output cannot be written, or if
+/// there is no memory.
 pub fn print_counts<A: Allocator, W: Write>(
     alloc: A,
     counts: &Counts,
@@ -18,7 +19,7 @@ pub fn print_counts<A: Allocator, W: Write>(
     ensures { IfErr result IsShort }
 {
     let mut text = Vec::new(alloc);
-    // A text in memory takes all that there is memory for.
+    // A text in memory takes each byte that there is memory for.
     write!(text, "{counts}").map_err(|_| Failure::NoMemory)?;
     write(out, &text)
 }

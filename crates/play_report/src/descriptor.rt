@@ -18,10 +18,15 @@ use play_writer::{ScriptError, put_descriptor, put_reclaim};
 use std::alloc::{Allocator, Global};
 use std::io::Write;
 
-/// Prints the lines of a trace that write the descriptor of these words and make its call, or of a reclaim the line of its
-/// call. Where a manifest is named by this path, of whose file these are the bytes, if it could be read, and the words give no
-/// form, the descriptor has the form that the caller has there. The manifest may be that of a machine of FF-A 1.1 or 1.2: a
-/// machine of 1.2 accepts each manifest that a machine of 1.1 accepts.
+/// Prints the lines of a trace that write the descriptor of these words and make its call. For a reclaim, it prints the
+/// line of the call.
+///
+/// If `path` names a manifest and the words give no form, the descriptor has the form that the caller has in this
+/// manifest. `manifest` has the bytes of its file, or is `None` if the program could not read the file. The manifest
+/// may be for a machine of FF-A 1.1 or 1.2. A machine of 1.2 accepts each manifest that a machine of 1.1 accepts.
+///
+/// Fails if the words are wrong, if no bytes are the descriptor, or if the manifest cannot be read or is rejected. Then
+/// it wrote nothing. It also fails if the output cannot be written, or if there is no memory.
 pub fn describe_for<'a, A: Allocator + Copy, W: Write>(
     alloc: A,
     manifests: Global,
@@ -62,7 +67,7 @@ fn describe<A: Allocator, W: Write>(
     }
 }
 
-// Puts the lines of what words ask for.
+// Appends the lines that the words request.
 fn put_asked<A: Allocator>(text: &mut Vec<u8, A>, asked: &Asked) -> Result<(), ScriptError>
     requires { HasAlignedTx asked.now }
     ensures written { OnOk result (Grows asked.now text.old.items text.new.items) }

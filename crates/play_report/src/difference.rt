@@ -1,5 +1,5 @@
 // SPDX-License-Identifier: MIT OR Apache-2.0
-//! What is told where a trace prints another text than is expected.
+//! The difference between the text that a trace prints and the expected text.
 ghost use Rattle.std.specs.Prelude.{◌≡◌, IfErr};
 ghost use Rattle.play_report.specs.Failures.{IsDifference, IsShort};
 
@@ -10,20 +10,21 @@ use std::alloc::Allocator;
 use std::io::Write;
 use std::{fmt, io};
 
-/// Where a trace prints another text than is expected.
+/// A place where a trace prints another text than the expected text.
 #[derive(Clone, Copy)]
 pub struct Difference<'a> {
-    /// The number of the line that prints it.
+    /// The number of the line of the trace that prints the text.
     pub number: u64,
-    /// The line's bytes. There are none where the trace has ended, and more is expected.
+    /// The bytes of the line of the trace. There are no bytes if the trace has ended and the expected text has more.
     pub line: &'a [u8],
-    /// The number of the line of the expected text that is another.
+    /// The number of the line of the expected text that differs.
     pub expected_line: u64,
-    /// That line, with the LF that ends it, where one does. It is empty where the expected text has ended.
+    /// The line of the expected text that differs, with its LF if it has an LF. It is empty if the expected text has
+    /// ended.
     pub expected: &'a [u8],
-    /// The line's text, from the first line of it that is another.
+    /// The text that the line of the trace prints, from its first line that differs.
     pub found: &'a [u8],
-    /// Why the line's operation is refused, where that is asked for.
+    /// The reason why the operation of the line is refused, if the user requests reasons.
     pub reason: Option<Reason>,
 }
 
@@ -32,7 +33,7 @@ const REGISTERS: [&str; 10] = [
     "regs", "runner", "x0", "x1", "x2", "x3", "x4", "x5", "x6", "x7",
 ];
 
-// A printed line with its LF, as it is told: bytes that a terminal doesn't show are escaped.
+// A printed line with its LF, as a message shows it. Bytes that a terminal does not show are escaped.
 #[derive(Clone, Copy)]
 struct Printed<'a>(&'a [u8]);
 
@@ -47,7 +48,7 @@ impl fmt::Display for Printed<'_> {
 }
 
 impl<'a> Difference<'a> {
-    /// Prints where the texts differ, and answers why the command isn't done.
+    /// Prints where the texts differ. Returns `Differs`, or `Write` or `NoMemory` if it could not print that.
     pub fn tell<A: Allocator, W: Write>(&self, alloc: A, out: &mut W) -> Failure<'static>
         ensures { IsDifference result }
     {
@@ -64,13 +65,14 @@ impl<'a> Difference<'a> {
         write(out, &text)
     }
 
-    // The trace's line with its number, the line that is expected with its own and the one that is found, and for registers
-    // which of them differ. Last why the operation is refused, if that is told.
+    // Returns the text of the difference. It has the trace's line with its number, the expected line with its number,
+    // and the line that was found. If these are registers, it names the ones that differ. Last comes the reason why the
+    // operation is refused, if there is one.
     fn text<A: Allocator>(&self, alloc: A) -> Result<Vec<u8, A>, Failure<'static>>
         ensures { IfErr result (λ failure. failure ≡ Failure.NoMemory) }
     {
         let mut text = Vec::new(alloc);
-        // A text in memory takes all that there is memory for.
+        // A text in memory takes each byte that there is memory for.
         self.put(&mut text).map_err(|_| Failure::NoMemory)?;
         let mut draft = Draft::of(text);
         put_reason(&mut draft, self.reason);
@@ -101,7 +103,7 @@ fn first_line(text: &[u8]) -> &[u8] {
     }
 }
 
-// Puts a word and spaces behind it, so many bytes wide, so that what follows stands under what follows other words.
+// Appends a word, and spaces up to this width in bytes. So the texts after several words begin in the same column.
 fn put_head<A: Allocator>(text: &mut Vec<u8, A>, word: &str, width: usize) -> io::Result<()> {
     text.write_all(word.as_bytes())?;
     for _ in word.len()..width {
@@ -110,7 +112,8 @@ fn put_head<A: Allocator>(text: &mut Vec<u8, A>, word: &str, width: usize) -> io
     Ok(())
 }
 
-// Where two lines have registers, a line that names those that differ. One that a line lacks differs.
+// Appends a line that names the registers that differ, if both lines have registers. A register that one line lacks
+// differs.
 fn put_registers<A: Allocator>(
     text: &mut Vec<u8, A>,
     width: usize,
@@ -137,7 +140,7 @@ fn put_registers<A: Allocator>(
     if is_first { Ok(()) } else { writeln!(text) }
 }
 
-// A line of registers, without the number that it may have, and without the LF that ends it.
+// Returns a line of registers without its number and without its LF, or `None` if the line has no registers.
 fn registers(line: &[u8]) -> Option<&[u8]> {
     let line = line.strip_suffix(b"\n").unwrap_or(line);
     let digits = line.iter().take_while(|byte| byte.is_ascii_digit()).count();

@@ -1,26 +1,27 @@
 // SPDX-License-Identifier: MIT OR Apache-2.0
-//! A line of a text, with a caret under the place at which something is wrong.
+//! A line of a text, with a caret under the place of a fault.
 use std::fmt;
 
-/// How many bytes of a line are shown: those around the place, of one that has more.
+/// The largest number of bytes of a line that an excerpt shows. If the line is longer, it shows the bytes around the
+/// place.
 const SHOWN: usize = 72;
 
-/// A line, cut around a place. It prints as two lines, and the second has the caret. Bytes that aren't printed characters of
-/// ASCII are `\xNN`.
+/// A line, cut around a place. It prints as two lines, and the second line has a caret under the place. A byte that is
+/// no printed character of ASCII prints as `\xNN`.
 #[derive(Clone, Copy, Debug, PartialEq, Eq)]
 pub struct Excerpt {
     number: u64,
     bytes: [u8; SHOWN],
     len: usize,
-    // Which of these bytes it is, or where one behind them would be.
+    // The index of the place among these bytes, or their number if the place is after them.
     at: usize,
     is_cut_before: bool,
     is_cut_behind: bool,
 }
 
 impl Excerpt {
-    /// Of the line of this number, counted from 1, without the LF that ends it, around the byte at this place, counted from
-    /// 0, or around its end, where it has no such byte.
+    /// Returns the excerpt of a line around the byte with the index `at`. The line is without its LF. Its number counts
+    /// from 1, and the index from 0. If the line has no such byte, the place is the end of the line.
     pub fn of_line(number: u64, line: &[u8], at: usize) -> Excerpt {
         let at = at.min(line.len());
         let first = first_shown(line.len(), at);
@@ -39,7 +40,8 @@ impl Excerpt {
         }
     }
 
-    /// Of the line of a text in which the byte at this place, counted from 0, stands.
+    /// Returns the excerpt of the line of a text that has the byte with the index `at`. The index counts from 0. If the
+    /// text has no such byte, the place is the end of the text.
     pub fn of_text(text: &[u8], at: usize) -> Excerpt {
         let mut start: usize = 0;
         let mut number: u64 = 0;
@@ -55,7 +57,7 @@ impl Excerpt {
     }
 }
 
-// The first byte that is shown of a line of so many, around a place.
+// Returns the index of the first byte that an excerpt shows of a line with this length, around a place.
 fn first_shown(len: usize, at: usize) -> usize {
     if len <= SHOWN {
         return 0;
@@ -63,7 +65,7 @@ fn first_shown(len: usize, at: usize) -> usize {
     at.saturating_sub(SHOWN / 2).min(len.saturating_sub(SHOWN))
 }
 
-// A line without the LF that ends it, and without a CR before that.
+// Returns a line without its LF, and without a CR before the LF.
 fn without_end(line: &[u8]) -> &[u8] {
     let line = line.strip_suffix(b"\n").unwrap_or(line);
     line.strip_suffix(b"\r").unwrap_or(line)
@@ -90,7 +92,8 @@ impl fmt::Display for Excerpt {
     }
 }
 
-// Whether a byte is a printed character of ASCII, and stands for itself; else it is the four characters `\xNN`.
+// Whether a byte is a printed character of ASCII. Such a byte prints as itself, and any other byte as four characters
+// `\xNN`.
 fn is_printed(byte: u8) -> bool {
     matches!(byte, b' '..=b'~')
 }
@@ -103,11 +106,11 @@ fn put_byte<W: fmt::Write>(byte: u8, f: &mut fmt::Formatter<W>) -> fmt::Result {
     }
 }
 
-// How many digits a number has.
+// Returns the number of decimal digits of a number.
 fn digits_of(number: u64) -> usize {
     let mut digits: usize = 1;
     let mut rest = number / 10;
-    // No number of 64 bits has more than 20.
+    // A number of 64 bits has at most 20 digits.
     for _ in 0..19 {
         if rest > 0 {
             digits = digits.saturating_add(1);

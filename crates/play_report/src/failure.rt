@@ -1,5 +1,5 @@
 // SPDX-License-Identifier: MIT OR Apache-2.0
-//! Why a command isn't done.
+//! The reasons why a command fails.
 ghost use Rattle.std.specs.Prelude.{◌≡◌};
 ghost use Rattle.play_report.specs.Failures.{StopsFor, failure_of, status_of};
 
@@ -14,12 +14,12 @@ use std::alloc::Allocator;
 use std::fmt;
 use thiserror::Error;
 
-/// What is wrong with a line. It prints as one line.
+/// The fault of a line. It prints as one line.
 #[derive(Clone, Copy, Debug, PartialEq, Eq)]
 pub enum Fault {
-    /// The words say no call, in a line that names one.
+    /// The words of a line that names a call are no call.
     Call(CallFault),
-    /// The line is none of a trace.
+    /// The line is no line of a trace.
     Line(LineFault),
 }
 
@@ -32,50 +32,49 @@ impl fmt::Display for Fault {
     }
 }
 
-/// What is wrong with a bad line, and where it is shown in its text, where it is in some place of that.
+/// The fault of a bad line, and the excerpt that shows its place, if it has a place in the line.
 #[derive(Clone, Copy, Debug, PartialEq, Eq)]
 pub struct LineFlaw {
     pub fault: Fault,
     pub excerpt: Option<Excerpt>,
 }
 
-/// Why a command isn't done.
+/// The reason why a command failed.
 #[derive(Clone, Copy, Debug, PartialEq, Eq, Error)]
 pub enum Failure<'a> {
-    /// The manifest is refused.
+    /// The manifest is rejected.
     #[error("manifest: {0}")]
     Manifest(ManifestError),
-    /// The line of this number, counted from 1, is none of a trace. What is wrong with it is told where it was looked for.
+    /// The line of this number is no line of a trace. The first line has the number 1. The flaw says what is wrong with
+    /// the line, if the command looked for it.
     #[error("line {0}: bad line")]
     BadLine(u64, Option<LineFlaw>),
-    /// The file at this path can't be read.
+    /// The file at this path cannot be read.
     #[error("cannot read {0}")]
     Read(&'a str),
-    /// The output can't be written.
+    /// The output cannot be written.
     #[error("cannot write")]
     Write,
     /// There is no memory.
     #[error("no memory")]
     NoMemory,
-    /// A trace prints another text than is expected, which the output has told.
+    /// A trace prints another text than the expected text. The output says where.
     #[error("the output differs from the expected output")]
     Differs,
-    /// The guard in the line of this number, counted from 1, isn't met.
+    /// The guard in the line of this number failed. The first line has the number 1.
     #[error("line {0}: guard failed")]
     Unmet(u64),
-    /// The words of a descriptor say none.
+    /// The words are no words of a descriptor.
     #[error("descriptor: {0}")]
     Words(WordsFault),
-    /// No bytes are a descriptor that says what the words do.
+    /// No bytes are a descriptor that says what the words say.
     #[error("descriptor: {0}")]
     Unfit(Unfit),
-    /// A picture would have more rows than this many.
-    #[error("the picture would have more than {0} rows; use --every with a larger number, or --page")]
-    TooManyRows(usize),
 }
 
 impl<'a> Failure<'a> {
-    /// The status with which the program ends.
+    /// Returns the status with which the program ends. It is 1 for a rejected manifest, 2 for a bad line, and 3 for a
+    /// file, the output or memory. It is 4 for a difference, 5 for a failed guard, and 64 for words or too many rows.
     pub fn status(&self) -> u8
         ensures { result ≡ status_of self.now }
     {
@@ -85,11 +84,12 @@ impl<'a> Failure<'a> {
             Failure::Read(_) | Failure::Write | Failure::NoMemory => 3,
             Failure::Differs => 4,
             Failure::Unmet(_) => 5,
-            Failure::Words(_) | Failure::Unfit(_) | Failure::TooManyRows(_) => 64,
+            Failure::Words(_) | Failure::Unfit(_) => 64,
         }
     }
 
-    /// Why a play of the trace at this path stopped, where this is wrong with the line at which it did.
+    /// Returns the failure of a play of the trace at this path, by the error of the play. `flaw` says what is wrong
+    /// with the line at which the play stopped.
     pub fn of_play(path: &'a str, error: PlayError, flaw: Option<LineFlaw>) -> Failure<'a>
         ensures { result ≡ failure_of (Failure.Read path.entry) flaw error }
     {
@@ -101,8 +101,9 @@ impl<'a> Failure<'a> {
         }
     }
 
-    /// The same, where these are the bytes of the line at which it did, in a trace of so many processors. A line that names its
-    /// call is told as one in words.
+    /// Returns the failure of a play of the trace at this path, like `of_play`, but finds the flaw itself. `line` has
+    /// the bytes of the line at which the play stopped, and `processors` is the number of processors of the trace. For
+    /// a line that names its call, the flaw is the fault of its words.
     pub fn of_line<A: Allocator + Copy>(
         path: &'a str,
         error: PlayError,
@@ -121,7 +122,7 @@ impl<'a> Failure<'a> {
     }
 }
 
-// What is wrong with the line of this number, as it stands in a trace, where it is this as a plain one.
+// Returns the flaw of the line of this number, as the trace has it. `fault` is its fault as a line of the plain format.
 fn flaw_of<A: Allocator + Copy>(alloc: A, number: u64, line: &[u8], fault: LineFault) -> LineFlaw {
     let text = line.strip_suffix(b"\n").unwrap_or(line);
     let fault = match (fault, CallFault::of_line(alloc, text)) {

@@ -1,5 +1,5 @@
 // SPDX-License-Identifier: MIT OR Apache-2.0
-//! Where the tables of a machine stand.
+//! The addresses of a machine's tables.
 ghost use Rattle.std.specs.Prelude.{◌≡◌, ◌+◌, ◌^◌, ◌<◌, [], ◌++◌};
 ghost use Rattle.arrayvec.specs.ArrayVec.{array_vec_len};
 ghost use Rattle.ffa_model.specs.declared.limits.TheConstants.{MOST_ENDPOINTS};
@@ -9,7 +9,8 @@ ghost use Rattle.play_report.specs.Layouts.{endpoint_line, layout_text};
 use ffa_model::{EndpointId, Manifest};
 use play_syntax::text::{self, CAPACITY, Text};
 
-/// Appends a line for each endpoint, with the addresses of its first tables, to no text yet.
+/// Appends a line for each endpoint to an empty text. The line has the addresses of the endpoint's level 1 page, its
+/// level 2 page and its first level 3 page.
 pub fn push_layout(text: &mut Text, manifest: &Manifest)
     requires { text.old.items ≡ [] }
     ensures { text.new.items ≡ layout_text (parts_of manifest.now) }

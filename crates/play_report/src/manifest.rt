@@ -1,5 +1,5 @@
 // SPDX-License-Identifier: MIT OR Apache-2.0
-//! Commands that want a manifest alone, and the reading of one.
+//! The commands that need only a manifest, and the reader of manifests.
 ghost use Rattle.std.specs.Prelude.{◌≡◌, ◌++◌, None, Some, Ok, OnOk, IfErr, IfOk, true};
 ghost use Rattle.ffa_manifest.specs.Document.{machine_of, parts_of};
 ghost use Rattle.play_report.specs.Layouts.{regions_text};
@@ -17,7 +17,8 @@ use play_syntax::text::Text;
 use std::alloc::{AllocError, Allocator, Global};
 use std::io::Write;
 
-/// Says that a manifest is accepted, for a machine of this version of FF-A.
+/// Prints that a manifest is accepted for a machine of this version of FF-A. Fails if the manifest cannot be read or is
+/// rejected, if the output cannot be written, or if there is no memory. If the manifest is rejected, it wrote nothing.
 pub fn accept<'a, A: Allocator, W: Write>(
     alloc: Global,
     path: &'a str,
@@ -33,7 +34,9 @@ pub fn accept<'a, A: Allocator, W: Write>(
     write(out, b"accepted\n")
 }
 
-/// Prints where the tables of a manifest's machine of this version of FF-A stand, and where that is asked for its regions and RAM.
+/// Prints the addresses of the tables of a manifest's machine of this version of FF-A. If `regions` is true, it also
+/// prints the regions and RAM. Fails if the manifest cannot be read or is rejected, if the output cannot be written, or
+/// if there is no memory. If the manifest is rejected, it wrote nothing.
 pub fn lay_out<'a, A: Allocator, W: Write>(
     alloc: Global,
     path: &'a str,
@@ -58,7 +61,7 @@ pub fn lay_out<'a, A: Allocator, W: Write>(
     }
 }
 
-// A text, and behind it the lines of a manifest's regions and RAM.
+// Returns a text, with the lines of a manifest's regions and RAM after it.
 fn with_regions(alloc: Global, text: &[u8], manifest: &Manifest) -> Result<Vec<u8>, AllocError>
     ensures { IfOk result (λ whole. whole.items ≡ text.now ++ regions_text (parts_of manifest.now)) }
 {
@@ -68,8 +71,9 @@ fn with_regions(alloc: Global, text: &[u8], manifest: &Manifest) -> Result<Vec<u
     Ok(whole)
 }
 
-/// Reads the manifest at this path, of whose file these are the bytes, if it could be read, for a machine of this version of
-/// FF-A. Where it is refused and more is asked for, `notes` has what more there is to say.
+/// Reads the manifest at this path for a machine of this version of FF-A. `bytes` has the bytes of its file, or is
+/// `None` if the program could not read the file. If the manifest is rejected and the user requests more, `notes` then
+/// says more about that. Fails if the manifest cannot be read or is rejected, or if there is no memory.
 pub fn read_manifest<'a, A: Allocator>(
     alloc: Global,
     path: &'a str,
@@ -105,7 +109,7 @@ fn read_text(alloc: Global, text: &str, ffa: Ffa) -> Result<Manifest, Failure<'s
     }
 }
 
-// Reads the bytes of a manifest, and of one that is refused notes where.
+// Reads the bytes of a manifest. If the manifest is rejected, it notes the place.
 #[tactic(auto, using(crate::proofs::Refusals::refused_as_read))]
 fn explain_bytes<A: Allocator>(
     alloc: Global,

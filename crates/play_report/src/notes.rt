@@ -1,5 +1,5 @@
 // SPDX-License-Identifier: MIT OR Apache-2.0
-//! What is noted while a command is done, for what is told where it isn't.
+//! The notes that a command makes for its messages if it fails.
 ghost use Rattle.std.specs.Prelude.{◌≡◌, is_some, true};
 
 use crate::excerpt::Excerpt;
@@ -10,14 +10,14 @@ use std::alloc::Allocator;
 use std::fmt::{self, Display};
 use std::io::ErrorKind;
 
-/// What more there is to say of why a command isn't done. It prints as one line.
+/// More information about the reason why a command failed. It prints as one line.
 #[derive(Drop)]
 pub enum More {
-    /// Where the manifest is refused.
+    /// The place at which the manifest is rejected.
     Place(ManifestRefusal),
-    /// What is wrong with the line.
+    /// The fault of the line.
     Line(LineFlaw),
-    /// Why the file can't be read.
+    /// The reason why the file cannot be read.
     File(ErrorKind),
 }
 
@@ -34,7 +34,8 @@ impl Display for More {
     }
 }
 
-// Whether a manifest is refused for an endpoint of FF-A 1.2, which the machine may have with the flag `--ffa 1.2`.
+// Whether a manifest is rejected because of an endpoint of FF-A 1.2, which a machine with the flag `--ffa 1.2` may
+// have.
 fn needs_newer_machine(refusal: &ManifestRefusal) -> bool {
     matches!(
         refusal.place.found,
@@ -46,7 +47,8 @@ fn needs_newer_machine(refusal: &ManifestRefusal) -> bool {
 }
 
 impl More {
-    /// The line in which that is, where it is in one: of the bytes of the manifest, or of the trace.
+    /// Returns the excerpt of the line that the information is about, or `None` if it is about no line. `manifest` has
+    /// the bytes of the manifest. The excerpt of a trace's line is in the information already.
     pub fn excerpt(&self, manifest: Option<&[u8]>) -> Option<Excerpt> {
         let at = match self {
             More::Place(refusal) => refusal.byte,
@@ -57,19 +59,19 @@ impl More {
     }
 }
 
-/// What is noted while a command is done.
+/// The notes that a command makes.
 #[derive(Drop)]
 pub struct Notes<A: Allocator> {
-    /// More is asked for than why a command isn't done.
+    /// Whether the user requests more than the reason why a command failed.
     pub verbose: bool,
-    /// What more there is to say of the manifest.
+    /// More information about the manifest.
     pub manifest: Option<More>,
-    /// What is said of guards, in lines.
+    /// The lines about guards.
     pub guard: Vec<u8, A>,
 }
 
 impl<A: Allocator> Notes<A> {
-    /// Nothing yet.
+    /// Returns notes that have nothing yet.
     pub fn new(alloc: A, verbose: bool) -> Notes<A>
         ensures { result.verbose ≡ verbose }
     {
@@ -80,8 +82,8 @@ impl<A: Allocator> Notes<A> {
         }
     }
 
-    /// What more there is to say of why a command isn't done, where that is asked for: where a manifest or a line is
-    /// refused, and why a file can't be read.
+    /// Returns more information about the reason why a command failed, if the user requests it. It says where the
+    /// manifest or a line is rejected, or why a file cannot be read.
     pub fn more_of(self, failure: &Failure<'_>, reason: Option<ErrorKind>) -> Option<More>
         ensures { (cause : ManifestError) → self.verbose ≡ true → failure.now ≡ Failure.Manifest cause
             → is_some self.manifest ≡ true → is_some result ≡ true }

@@ -1,12 +1,12 @@
 // SPDX-License-Identifier: MIT OR Apache-2.0
-//! Writing a text as a command's output.
+//! Writes a text as a command's output.
 ghost use Rattle.std.specs.Prelude.{◌≡◌, IfErr, OnOk};
 ghost use Rattle.std.specs.Io.KnownBytes.{Appends};
 
 use crate::failure::Failure;
 use std::io::Write;
 
-/// Writes a text, whole.
+/// Writes all of a text. Fails with `Write` if the output cannot be written.
 pub(crate) fn write<'a, W: Write>(out: &mut W, text: &[u8]) -> Result<(), Failure<'a>>
     ensures written { OnOk result (Appends (W.contents out.old) (W.contents out.new) text.now) }
     ensures failed { IfErr result (λ failure. failure ≡ Failure.Write) }

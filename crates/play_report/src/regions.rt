@@ -1,5 +1,5 @@
 // SPDX-License-Identifier: MIT OR Apache-2.0
-//! Where the regions of a machine lie, and what is there for them.
+//! The addresses of a machine's regions, and of the RAM that is there for them.
 ghost use Rattle.std.specs.Prelude.{◌≡◌, ◌+◌, ◌<◌, ◌≤◌, [], ◌++◌, length, OnOk, flat_map};
 ghost use Rattle.arrayvec.specs.ArrayVec.{array_vec_len};
 ghost use Rattle.ffa_model.specs.declared.limits.TheConstants.{MOST_ENDPOINTS};
@@ -11,7 +11,8 @@ use ffa_model::{EndpointId, Manifest, Region};
 use play_syntax::text::{self, CAPACITY, Text};
 use std::alloc::AllocError;
 
-/// Appends a line for each region of each endpoint, and then those of the table pages, of what lies behind them, and of RAM.
+/// Appends a line for each region of each endpoint. Then it appends a line for the table pages, a line for the pages
+/// after them, and a line for RAM. Fails if there is no memory.
 pub fn put_regions(text: &mut Vec<u8>, manifest: &Manifest) -> Result<(), AllocError>
     ensures { OnOk result (text.new.items ≡ text.old.items ++ regions_text (parts_of manifest.now)) }
 {
@@ -73,7 +74,7 @@ fn push_spans(lines: &mut Text, manifest: &Manifest)
     push_span(lines, b"ram", base, ram_end);
 }
 
-// The first and the last address of what ends there.
+// Appends a line with the addresses of the first and the last byte of a span. The span ends before the address `end`.
 fn push_span(lines: &mut Text, name: &[u8], first: u64, end: u64)
     requires room { array_vec_len lines.old + 32 ≤ CAPACITY }
     requires short { length name.now ≤ 6 }

@@ -1,6 +1,6 @@
 // SPDX-License-Identifier: MIT OR Apache-2.0
-//! Loads, stores and fetches: at the edges of what an endpoint reaches, and of what was stored, by the endpoint itself, by whoever
-//! sent the pages, or by the manager.
+//! Loads, stores and fetches. They are at the edges of what an endpoint reaches, and read what the endpoint itself, the
+//! sender of the pages or the manager stored.
 use crate::dice::Dice;
 use crate::generator::Generator;
 use crate::offers::{MOST_PARTS, Offer, Wish};
@@ -12,10 +12,10 @@ use play_transcript::{Change, Deed};
 /// The first address that has more than 32 bits.
 const TOO_HIGH: u64 = 1 << 32;
 
-/// The most words that are read at once.
+/// The largest number of words of 8 bytes that an endpoint reads at once.
 const MOST_WORDS: u64 = 12;
 
-/// So many are read where as much was read as stored.
+/// The number of words of 8 bytes that an endpoint reads at once even if loads have read all that was stored.
 const FEW_WORDS: u64 = 3;
 
 impl<'m, S: Stage + Drop> Generator<'m, S> {
@@ -29,7 +29,7 @@ impl<'m, S: Stage + Drop> Generator<'m, S> {
         self.unread = self.unread.saturating_sub(1);
     }
 
-    /// One to three accesses.
+    /// Plays one to three accesses.
     pub(crate) fn play_accesses(&mut self) {
         self.announce(Deed::Access, None, Change::Nothing);
         let count = 1 + self.dice.below(3);
@@ -38,7 +38,7 @@ impl<'m, S: Stage + Drop> Generator<'m, S> {
         }
     }
 
-    // A load, a fetch, or a store and a load of what was stored. TX is mostly left to descriptors.
+    // Plays a load, a fetch, or a store and a load of the same bytes. It mostly leaves TX to descriptors.
     fn play_access(&mut self) {
         let page = self.edge_page();
         let size = self.dice.pick(&[Size::B1, Size::B2, Size::B4, Size::B8]);
@@ -62,7 +62,8 @@ impl<'m, S: Stage + Drop> Generator<'m, S> {
         }
     }
 
-    // A page at an edge of what the runner reaches: of its regions or another's, of RAM, or one that is offered.
+    // Returns the address of a page at an edge of what the runner reaches: at an edge of its regions, of another's
+    // regions or of RAM, or a page of a transaction.
     fn edge_page(&mut self) -> u64 {
         let runner = self.runner();
         let other = self.any_endpoint();
@@ -98,7 +99,8 @@ impl<'m, S: Stage + Drop> Generator<'m, S> {
         }
     }
 
-    // Loads the words of so many bytes, the first ones, and no more than were stored, but for a few.
+    // Loads the first words of this number of bytes: FEW_WORDS in any case, and up to MOST_WORDS while there are stores
+    // without a load.
     fn read_words(&mut self, address: u64, bytes: u32) {
         for index in 0..MOST_WORDS {
             let is_wanted = index < FEW_WORDS || self.unread > 0;
@@ -108,7 +110,8 @@ impl<'m, S: Stage + Drop> Generator<'m, S> {
         }
     }
 
-    /// The runner reads back so many bytes that it stored in TX, where more was stored than read.
+    /// The runner reads back this number of bytes that it stored in TX, if more than MOST_WORDS stores are without a
+    /// load.
     pub(crate) fn read_tx(&mut self, bytes: u32) {
         if let Some(buffers) = self.buffers()
             && self.unread > MOST_WORDS
@@ -118,7 +121,7 @@ impl<'m, S: Stage + Drop> Generator<'m, S> {
         }
     }
 
-    /// The runner reads what it was given in RX, if anything.
+    /// The runner reads the bytes in its RX, if there are any.
     pub(crate) fn read_rx(&mut self) {
         if let Some(buffers) = self.buffers()
             && buffers.filled > 0
@@ -128,7 +131,7 @@ impl<'m, S: Stage + Drop> Generator<'m, S> {
         }
     }
 
-    /// The runner stores a word in each range that it is to send.
+    /// The runner stores a word of 8 bytes in each range that it will send, if it may write there.
     pub(crate) fn mark_parts(&mut self, parts: &[Range; MOST_PARTS]) {
         for part in parts {
             if part.pages > 0 && self.free_level(part.address) == Some(Data::Rw) {
@@ -138,7 +141,7 @@ impl<'m, S: Stage + Drop> Generator<'m, S> {
         }
     }
 
-    /// The runner reads the first and the last word of each range of a transaction.
+    /// The runner reads the first and the last word of 8 bytes of each range of a transaction.
     pub(crate) fn read_parts(&mut self, offer: &Offer) {
         self.announce(Deed::ReadPages, Some(offer.sender), Change::Nothing);
         for part in &offer.parts {
@@ -152,7 +155,8 @@ impl<'m, S: Stage + Drop> Generator<'m, S> {
 }
 
 impl Dice {
-    // A place in a page: at its beginning, at its end or between, mostly a multiple of the size.
+    // Returns an offset in a page, in bytes: at the beginning, at the end or between. It is mostly a multiple of the
+    // size.
     fn offset(&mut self, size: Size) -> u64 {
         let count = size.bytes();
         let any = self.word() % PAGE;

@@ -1,5 +1,5 @@
 // SPDX-License-Identifier: MIT OR Apache-2.0
-//! Buffers that are mapped, unmapped and released.
+//! Scenes that map, unmap and release buffers.
 use crate::generator::Generator;
 use crate::pages::meet;
 use crate::stage::Stage;
@@ -8,7 +8,7 @@ use ffa_model::{Data, MOST_BUFFER_PAGES, Range};
 use play_transcript::{Change, Deed};
 
 impl<'m, S: Stage + Drop> Generator<'m, S> {
-    /// The runner maps buffers where it has none. It answers whether it has some then.
+    /// The runner maps buffers, if it has no buffers. Returns whether it has buffers then.
     pub(crate) fn need_buffers(&mut self) -> bool {
         if self.buffers().is_none() {
             let pages = if self.dice.one_in(4) { 2 } else { 1 };
@@ -20,7 +20,7 @@ impl<'m, S: Stage + Drop> Generator<'m, S> {
         self.buffers().is_some()
     }
 
-    /// The runner, which has no buffers, maps some of so many pages, where it finds them.
+    /// The runner, which has no buffers, maps buffers of this number of pages each, if it finds the pages.
     pub(crate) fn map(&mut self, pages: u32) {
         self.ask_version();
         if let Some(tx) = self.free_run(pages, Data::Rw)
@@ -30,14 +30,15 @@ impl<'m, S: Stage + Drop> Generator<'m, S> {
         }
     }
 
-    // FFA_RXTX_MAP in either form.
+    // Calls FFA_RXTX_MAP in either form.
     fn call_map(&mut self, arguments: [u64; 3], change: Change) {
         self.announce(Deed::Map, None, change);
         let function = self.dice.either(FFA_RXTX_MAP);
         self.call(function, &arguments);
     }
 
-    // As many pages as TX has, that aren't those.
+    // Returns a run of pages that is as long as TX and has no page of TX. Returns `None` if a few tries find no such
+    // run.
     fn free_run_beside(&mut self, tx: Range) -> Option<Range> {
         for _ in 0..16 {
             let rx = self.free_run(tx.pages, Data::Rw)?;
@@ -48,7 +49,7 @@ impl<'m, S: Stage + Drop> Generator<'m, S> {
         None
     }
 
-    /// FFA_RXTX_MAP, mostly as it should be.
+    /// Plays FFA_RXTX_MAP, in half of the cases with something changed.
     pub(crate) fn play_map(&mut self) {
         if self.dice.one_in(2) {
             self.play_turned_map();
@@ -59,7 +60,7 @@ impl<'m, S: Stage + Drop> Generator<'m, S> {
         }
     }
 
-    // FFA_RXTX_MAP with one thing after another changed.
+    // Plays FFA_RXTX_MAP with one thing changed, another one each time.
     fn play_turned_map(&mut self) {
         let number = self.rounds.maps.below(7);
         if number == 0 {
@@ -95,21 +96,21 @@ impl<'m, S: Stage + Drop> Generator<'m, S> {
         self.attempt(Deed::Unmap, None, Change::Nothing, &[]);
     }
 
-    /// The runner has no buffers any more.
+    /// Unmaps the runner's buffers, if it has any.
     pub(crate) fn unmap_any(&mut self) {
         if self.buffers().is_some() {
             self.unmap();
         }
     }
 
-    /// A call that the runner makes without buffers.
+    /// Unmaps the runner's buffers, and makes a call that needs buffers.
     pub(crate) fn attempt_without_buffers(&mut self, deed: Deed, arguments: &[u64]) {
         self.unmap_any();
         let other = self.another();
         self.attempt(deed, Some(other), Change::NoBuffers, arguments);
     }
 
-    /// sometimes with its register changed or where there are no buffers.
+    /// Plays FFA_RXTX_UNMAP, sometimes with its register changed or without buffers.
     pub(crate) fn play_unmap(&mut self) {
         let endpoint = self.dice.pick(&[0, 0, 1, 0x8001_0000]);
         let change = match endpoint {
@@ -122,13 +123,13 @@ impl<'m, S: Stage + Drop> Generator<'m, S> {
         }
     }
 
-    /// The runner reads its RX, and empties it.
+    /// The runner reads its RX, and releases it by FFA_RX_RELEASE.
     pub(crate) fn release(&mut self) {
         self.read_rx();
         self.attempt(Deed::Release, None, Change::Nothing, &[]);
     }
 
-    /// So where RX is full, but for once in some times.
+    /// The runner reads its RX and releases it in two of three cases, if RX is full.
     pub(crate) fn release_mostly(&mut self) {
         let is_full = self.buffers().is_some_and(|buffers| buffers.filled > 0);
         if is_full && !self.dice.one_in(3) {

@@ -1,5 +1,5 @@
 // SPDX-License-Identifier: MIT OR Apache-2.0
-//! What is changed, one thing after another, where lists of that are gone through.
+//! The lists of changes that the generator goes through in turn.
 use ffa_model::Kind;
 use play_transcript::Change;
 
@@ -7,12 +7,12 @@ macro_rules! changes {
     ($($change:ident)*) => { [$(Change::$change),*] };
 }
 
-/// In a send, with each kind in turn.
+/// The changes of a send. The generator makes each change with each kind in turn.
 pub(crate) const SENDS: [Change; 13] = changes![
     Field Length Sender UnfitPage Fragment Stranger Field TooLong Outside BufferAddress Field BufferPages NoBuffers
 ];
 
-/// In a send of a page that is only read.
+/// The changes of a send of a page that the sender may only read, with the kind of the send.
 pub(crate) const READ_ONLY_SENDS: [(Kind, Change); 6] = [
     (Kind::Share, Change::ReadOnly),
     (Kind::Lend, Change::Grant),
@@ -26,18 +26,18 @@ pub(crate) const RETRIEVES: [Change; 13] = changes![
     Field Fragment Sender Handle Length Tag Kind Right TooLong Field BufferAddress NoBuffers BufferPages
 ];
 
-/// In whom a retrieve names.
+/// The changes of the endpoints that a retrieve names.
 pub(crate) const NAMES: [Change; 6] =
     changes![AllNamed OthersNamed AllNamed OneNamed OthersNamed AllNamedAsOne];
 
 pub(crate) const RELINQUISHES: [Change; 8] =
     changes![Nothing NotHeld Zeros Handle Nothing Sender Nothing Field];
 
-/// In an indirect message.
+/// The changes of an indirect message (FFA_MSG_SEND2).
 pub(crate) const MESSAGES: [Change; 18] = changes![
     Nothing Flags Nothing Reserved Sender Nothing Stranger Oneself Nothing InHeader NoBytes Nothing BeyondTx AboveRx Field
     Nothing NoBuffers AboveRx
 ];
 
-/// In a call on the bits of notifications.
+/// The changes of a call on the bits of notifications.
 pub(crate) const BITS: [Change; 5] = changes![Swapped Stranger Oneself Flags NoBit];

@@ -1,5 +1,5 @@
 // SPDX-License-Identifier: MIT OR Apache-2.0
-//! Descriptors: what an endpoint stores into its TX for a call, as it should be or with something changed.
+//! Descriptors that an endpoint stores into its TX for a call, in the right form or with something changed.
 ghost use Rattle.std.specs.Prelude.{◌≤◌};
 
 use crate::dice::Dice;
@@ -11,29 +11,29 @@ use ffa_model::{EndpointId, Kind, RelinquishDesc, RetrieveDesc, Size, Version};
 use play_transcript::{Change, Deed};
 use play_writer::{write_relinquish, write_retrieve, write_send};
 
-/// How many bytes a page has.
+/// The size of a page in bytes.
 pub(crate) const PAGE_SIZE: usize = 4096;
 
-/// How many words.
+/// The size of a page in words of 8 bytes.
 const WORDS: usize = 512;
 
-// The sizes of fields that stand side by side. A header, in each form: sender, attributes, flags, handle, tag, the word of the
-// size, count.
+// The sizes in bytes of fields that follow each other. A header in each form: sender, attributes, flags, handle, tag,
+// the word with the size of an access descriptor, count.
 const HEADER: [usize; 7] = [2, 2, 4, 8, 8, 4, 4];
-// The rest of a header that isn't compact: the offset of the access descriptors, and reserved words.
+// The rest of a header that is not compact: the offset of the access descriptors, and reserved words.
 const HEADER_REST: [usize; 3] = [4, 4, 8];
 // An access descriptor: endpoint, permissions, flags, composite offset, reserved.
 const ACCESS: [usize; 5] = [2, 1, 1, 4, 8];
-// The same in 1.2: the implementation's 16 bytes stand before the reserved ones.
+// An access descriptor in FF-A 1.2, where the 16 bytes of the implementation come before the reserved ones.
 const ACCESS_1_2: [usize; 7] = [2, 1, 1, 4, 8, 8, 8];
 // A composite and its first range: total, count, reserved, address, pages, reserved.
 const COMPOSITE: [usize; 6] = [4, 4, 8, 8, 4, 4];
-// Handle, flags, count, endpoint.
+// The descriptor of FFA_MEM_RELINQUISH: handle, flags, count, endpoint.
 const RELINQUISH: [usize; 4] = [8, 4, 4, 2];
-// Flags, reserved, offset, receiver, sender, size.
+// The header of an indirect message: flags, reserved, offset, receiver, sender, size.
 const MESSAGE: [usize; 6] = [4, 4, 4, 2, 2, 4];
 
-/// An indirect message: its header, and its first word.
+/// An indirect message (FFA_MSG_SEND2): its header, and its first word.
 #[derive(Clone, Copy, Default)]
 pub(crate) struct Message {
     pub flags: u32,
@@ -46,10 +46,10 @@ pub(crate) struct Message {
 }
 
 impl Message {
-    /// How many bytes its header has, up to a multiple of 8.
+    /// The size of the header in bytes, up to a multiple of 8.
     pub(crate) const START: u32 = 24;
 
-    /// How many bytes are written of it.
+    /// The number of bytes of a message that the runner writes: the header and the first word.
     pub(crate) const WRITTEN: u32 = 32;
 
     fn write(&self, page: &mut [u8; PAGE_SIZE]) {
@@ -63,21 +63,22 @@ impl Message {
     }
 }
 
-/// The most endpoints that a retrieve names.
+/// The largest number of endpoints that a retrieve names.
 pub(crate) const MOST_NAMED: usize = MOST_TAKERS + 1;
 
-/// A retrieve that names the first endpoints of an array in its order. Bit 10 of its flags is set or not.
+/// A retrieve that names the first `count` endpoints of an array in its order. Bit 10 of its flags is set or not.
 #[derive(Clone, Copy)]
 pub(crate) struct NamingRetrieve {
     pub desc: RetrieveDesc,
     pub named: [EndpointId; MOST_NAMED],
-    /// The number of endpoints that it names.
+    /// The number of endpoints that the retrieve names.
     pub count: usize,
     pub has_bit_10: bool,
 }
 
 impl NamingRetrieve {
-    // Each access descriptor says what the writer asks for, since the manager reads the permissions of the writer's own alone.
+    // Each access descriptor says what the writer requests, since the manager reads only the permissions of the
+    // writer's own.
     fn write(&self, version: Version, writer: EndpointId, page: &mut [u8; PAGE_SIZE]) -> u32 {
         write_retrieve(version, &self.desc, writer, page);
         let permissions = page[access_start(version, 0) + 2];
@@ -95,7 +96,7 @@ impl NamingRetrieve {
     }
 }
 
-/// What stands in TX for a call.
+/// The content of TX for a call.
 #[derive(Clone, Copy)]
 pub(crate) enum Descriptor {
     Send(Offer),
@@ -108,7 +109,7 @@ pub(crate) enum Descriptor {
 }
 
 impl Descriptor {
-    // How its call is told.
+    // Returns the deed that names the call in a trace.
     fn deed(&self) -> Deed {
         match self {
             Descriptor::Send(offer) => deed_of(offer.kind),
@@ -119,7 +120,8 @@ impl Descriptor {
         }
     }
 
-    // Writes that of an endpoint into a page, and answers how many bytes it has.
+    // Writes the descriptor of an endpoint into a page, and returns its size in bytes. Returns `None` if it cannot be
+    // written.
     fn write(
         &self,
         version: Version,
@@ -145,7 +147,7 @@ impl Descriptor {
     }
 }
 
-/// How the send of a kind is told.
+/// Returns the deed that names a send of this kind in a trace.
 pub(crate) fn deed_of(kind: Kind) -> Deed {
     match kind {
         Kind::Share => Deed::Share,
@@ -154,7 +156,7 @@ pub(crate) fn deed_of(kind: Kind) -> Deed {
     }
 }
 
-// How many bytes a header has.
+// Returns the size of a header in bytes.
 fn header_size(version: Version) -> usize {
     match version {
         Version::Compact => 32,
@@ -162,7 +164,7 @@ fn header_size(version: Version) -> usize {
     }
 }
 
-// How many bytes an access descriptor has.
+// Returns the size of an access descriptor in bytes.
 fn access_size(version: Version) -> usize {
     match version {
         Version::Compact | Version::V1_1 => 16,
@@ -170,7 +172,7 @@ fn access_size(version: Version) -> usize {
     }
 }
 
-// Where the access descriptor with an index begins.
+// Returns the offset in bytes of the access descriptor with this index.
 fn access_start(version: Version, index: usize) -> usize
     requires { index ≤ MOST_NAMED }
     ensures { result ≤ 144 }
@@ -182,7 +184,7 @@ fn access_start(version: Version, index: usize) -> usize
     }
 }
 
-// The sizes of its fields.
+// Returns the sizes in bytes of the fields of an access descriptor.
 fn access_fields(version: Version) -> &'static [usize] {
     match version {
         Version::Compact | Version::V1_1 => &ACCESS,
@@ -191,8 +193,9 @@ fn access_fields(version: Version) -> &'static [usize] {
 }
 
 impl<'m, S: Stage + Drop> Generator<'m, S> {
-    /// Says what the runner tries, stores the descriptor into its TX, and makes the call. Where the descriptor can be written, it
-    /// answers how many bytes it has, and what the next runner sees where the call is done.
+    /// Adds a comment that says what the runner tries, stores the descriptor into the runner's TX, and makes the call.
+    /// Returns the size of the descriptor in bytes, and the registers that the next runner sees if the call succeeded.
+    /// Returns `None` if the descriptor cannot be written.
     pub(crate) fn attempt_by_tx(
         &mut self,
         descriptor: &Descriptor,
@@ -228,7 +231,7 @@ impl<'m, S: Stage + Drop> Generator<'m, S> {
         Some((length, answer))
     }
 
-    // Stores the first bytes of a page into TX, but for the words that stand there.
+    // Stores the first bytes of a page into TX, except the words that are there already.
     fn write_tx(&mut self, page: &[u8; PAGE_SIZE], length: u32) {
         let Some(buffers) = self.buffers() else {
             return;
@@ -245,8 +248,8 @@ impl<'m, S: Stage + Drop> Generator<'m, S> {
 }
 
 impl Dice {
-    // The arguments of a call whose descriptor of so many bytes stands in TX: its length, that of the fragment, and the address and
-    // the pages of a buffer beside TX, which there isn't.
+    // Returns the arguments of a call with a descriptor of this size in TX. They are the size of the descriptor, the
+    // size of the fragment, and the address and the pages of a buffer other than TX. There is no such buffer.
     fn lengths(&mut self, length: u64, change: Change) -> [u64; 4] {
         let whole = match change {
             Change::Length => self.pick(&[0, 17, length.wrapping_sub(1), length.wrapping_sub(16)]),
@@ -263,7 +266,7 @@ impl Dice {
         arguments
     }
 
-    // Changes a field of a descriptor that stands in a page.
+    // Changes a field of a descriptor that is in a page.
     fn change_field(&mut self, page: &mut [u8; PAGE_SIZE], version: Version, written: &Descriptor) {
         let (start, sizes) = self.fields(version, written);
         let place = self.place(sizes.len());
@@ -283,7 +286,7 @@ impl Dice {
         }
     }
 
-    // Where fields of a descriptor begin, and their sizes.
+    // Returns the offset in bytes of fields of a descriptor, and the sizes of these fields.
     fn fields(&mut self, version: Version, written: &Descriptor) -> (usize, &'static [usize]) {
         let array = header_size(version);
         let access = access_fields(version);

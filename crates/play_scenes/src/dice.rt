@@ -6,7 +6,7 @@ use ffa_model::function::WIDE;
 use rand_core::{Rng, SeedableRng};
 use rand_pcg::Pcg32;
 
-/// What chooses. Two dice of one seed choose the same.
+/// A source of choices at random. Two dice of the same seed choose the same.
 #[derive(Drop)]
 pub(crate) struct Dice {
     words: Pcg32,
@@ -19,12 +19,12 @@ impl Dice {
         }
     }
 
-    /// Any number.
+    /// Returns any number of 64 bits.
     pub(crate) fn word(&mut self) -> u64 {
         self.words.next_u64()
     }
 
-    /// A number below a limit.
+    /// Returns a number below a limit, which is at least 1.
     pub(crate) fn below(&mut self, limit: u32) -> u32
         requires { 0 < limit }
         ensures { result < limit }
@@ -32,21 +32,21 @@ impl Dice {
         self.words.next_u32() % limit
     }
 
-    /// True once in so many times.
+    /// Whether an event with a chance of 1 in `times` happens.
     pub(crate) fn one_in(&mut self, times: u32) -> bool
         requires { 0 < times }
     {
         self.below(times) == 0
     }
 
-    /// One of these.
+    /// Returns one of these items at random. There must be at least one item.
     pub(crate) fn pick<X: Copy>(&mut self, items: &[X]) -> X
         requires { 1 ≤ length items.now }
     {
         items[self.words.next_u32() as usize % items.len()]
     }
 
-    /// A place among so many, from 0 on; 0 where there is none.
+    /// Returns an index into a list of `count` items, or 0 if the list is empty.
     pub(crate) fn place(&mut self, count: usize) -> usize
         ensures { result ≤ count }
     {
@@ -56,7 +56,8 @@ impl Dice {
         }
     }
 
-    /// The identifier of a call that has both forms, in one of them.
+    /// Returns the identifier of a call in its 32-bit form or, in one of four cases, in its 64-bit form. The call must
+    /// have both forms.
     pub(crate) fn either(&mut self, function: u32) -> u32 {
         if self.one_in(4) {
             function | WIDE
@@ -65,7 +66,7 @@ impl Dice {
         }
     }
 
-    /// Another number in the place of one.
+    /// Returns another number than `value`.
     pub(crate) fn spoil(&mut self, value: u64) -> u64 {
         let bit = 1 << self.below(16);
         let word = self.word();
@@ -86,14 +87,14 @@ impl Dice {
     }
 }
 
-/// How often a list was asked for its next, so that each of its items comes as often as the others.
+/// A counter that goes through a list in turn, so that each item is used equally often.
 #[derive(Clone, Copy, Default)]
 pub(crate) struct Round {
     count: u32,
 }
 
 impl Round {
-    /// The next number below a limit.
+    /// Returns the next number below a limit, which is at least 1. After the last number, it begins again.
     pub(crate) fn below(&mut self, limit: usize) -> usize
         requires { 0 < limit }
         ensures { result < limit }
@@ -102,7 +103,7 @@ impl Round {
         self.count as usize % limit
     }
 
-    /// The next of these.
+    /// Returns the next of these items. There must be at least one item.
     pub(crate) fn next_of<X: Copy>(&mut self, items: &[X]) -> X
         requires { 1 ≤ length items.now }
     {

@@ -1,5 +1,6 @@
 // SPDX-License-Identifier: MIT OR Apache-2.0
-//! The generator: what it plays on, how it makes a call, and what it learns of the endpoints from the answer.
+//! The generator. This file says on what it plays, how it makes a call, and what it learns of the endpoints from an
+//! answer.
 ghost use Rattle.std.specs.Prelude.{◌≤◌};
 ghost use Rattle.ffa_model.specs.declared.limits.TheConstants.{MOST_ENDPOINTS};
 
@@ -16,10 +17,10 @@ use ffa_model::{
 };
 use play_transcript::{Attempt, Change, Deed, TraceEntry};
 
-/// What FFA_VERSION answers where a machine of FF-A 1.2 keeps the form that is asked for.
+/// The answer of FFA_VERSION on a machine of FF-A 1.2 that keeps the form that the caller requested.
 const SERVED_1_2: u64 = 0x1_0002;
 
-/// An endpoint's buffers, and how many bytes stand in RX, which is full where there are some.
+/// An endpoint's buffers, and the number of bytes in RX. RX is full if this number is not 0.
 #[derive(Clone, Copy)]
 pub(crate) struct MappedBuffers {
     pub tx: Range,
@@ -27,22 +28,22 @@ pub(crate) struct MappedBuffers {
     pub filled: u32,
 }
 
-/// What is known of an endpoint.
+/// The generator's knowledge of an endpoint.
 #[derive(Clone, Copy, Default)]
 pub(crate) struct Known {
     pub buffers: Option<MappedBuffers>,
-    /// The form that it asked for, where a machine of FF-A 1.2 keeps it.
+    /// The form that the endpoint requested by FFA_VERSION, if a machine of FF-A 1.2 keeps it.
     pub version: Option<Version>,
-    /// Its work, where it doesn't wait.
+    /// The work of the endpoint, or `None` if it waits.
     pub work: Option<Work>,
-    /// The bits of its own that it bound to another endpoint: the last ones, as a word, and to whom.
+    /// The notification bits that the endpoint bound last, as a word, and the sender to which it bound them.
     pub bound: Option<(u64, EndpointId)>,
-    /// One of its bits is pending.
+    /// Whether one of the endpoint's notification bits is pending.
     pub pending: bool,
 }
 
 impl Known {
-    /// So many bytes stand in RX; it is empty where there are none.
+    /// Notes that RX has this number of bytes. RX is empty if the number is 0.
     pub(crate) fn fill_rx(&mut self, bytes: u32) {
         if let Some(buffers) = &mut self.buffers {
             buffers.filled = bytes;
@@ -50,25 +51,25 @@ impl Known {
     }
 }
 
-/// Makes the lines of a trace. It plays each operation at once, and so knows what came of it.
+/// A generator, which makes the lines of a trace. It plays each operation at once, and therefore knows the outcome.
 #[derive(Drop)]
 pub struct Generator<'m, S: Stage + Drop> {
     pub(crate) manifest: &'m Manifest,
     pub(crate) stage: S,
     pub(crate) dice: Dice,
     pub(crate) rounds: Rounds,
-    /// What is known of each endpoint, by its place.
+    /// The generator's knowledge of each endpoint, by the endpoint's place in the manifest.
     pub(crate) known: [Known; MOST_ENDPOINTS],
     pub(crate) offers: Offers,
     /// The endpoint that gathers pages now.
     pub(crate) hoarder: Option<EndpointId>,
-    /// How many turns were played.
+    /// The number of turns that the generator has played.
     pub(crate) turns: u64,
-    /// How many stores were not answered by a load.
+    /// The number of stores that no load has followed yet.
     pub(crate) unread: u64,
 }
 
-/// What is gone through in turn.
+/// The lists that the generator goes through in turn.
 #[derive(Default, Drop)]
 pub(crate) struct Rounds {
     pub maps: Round,
@@ -87,7 +88,8 @@ pub(crate) struct Rounds {
     pub gets: Round,
 }
 
-/// The identifier of the call that a deed is; that of none where it is none, or one of several.
+/// Returns the identifier of the call that a deed makes. If the deed makes no call, or can make several, this is
+/// FFA_ERROR, which identifies no call.
 pub(crate) fn function_of(deed: Deed) -> u32 {
     match deed {
         Deed::Information => FFA_PARTITION_INFO_GET,
@@ -117,18 +119,19 @@ pub(crate) fn function_of(deed: Deed) -> u32 {
     }
 }
 
-/// A word with an endpoint in its high half, and another's identifier or a number in its low half.
+/// Returns a word with an endpoint in bits 31 to 16, and with a number or another endpoint's identifier in bits 15 to
+/// 0.
 pub(crate) fn pair(high: EndpointId, low: u16) -> u64 {
     u64::from(high.0) << 16 | u64::from(low)
 }
 
-/// The low and the high half of a word.
+/// Returns the low and the high 32 bits of a word.
 pub(crate) fn halves(word: u64) -> [u64; 2] {
     [word % (1 << 32), word >> 32]
 }
 
 impl<'m, S: Stage + Drop> Generator<'m, S> {
-    /// A generator on a stage whose machine is that of this manifest, in its first state.
+    /// Returns a generator with this seed on a stage, whose machine is the machine of this manifest in its first state.
     pub fn new(manifest: &'m Manifest, stage: S, seed: u64) -> Generator<'m, S> {
         Generator {
             manifest,
@@ -143,13 +146,13 @@ impl<'m, S: Stage + Drop> Generator<'m, S> {
         }
     }
 
-    /// What was played on.
+    /// Ends the generator, and returns its stage.
     pub fn into_stage(self) -> S {
         let Generator { stage, .. } = self;
         stage
     }
 
-    /// Says in a comment what the runner does next, to whom, and what is wrong with it.
+    /// Adds a comment to the trace that says what the runner does next, to whom, and what is wrong with it.
     pub(crate) fn announce(&mut self, deed: Deed, other: Option<EndpointId>, change: Change) {
         let actor = self.stage.runner();
         self.stage.put(TraceEntry::Attempt(Attempt {
@@ -160,7 +163,7 @@ impl<'m, S: Stage + Drop> Generator<'m, S> {
         }));
     }
 
-    /// Says what the runner tries, and makes its call. It answers whether that is done.
+    /// Adds a comment that says what the runner tries, and makes the runner's call. Returns whether the call succeeded.
     pub(crate) fn attempt(
         &mut self,
         deed: Deed,
@@ -172,7 +175,8 @@ impl<'m, S: Stage + Drop> Generator<'m, S> {
         self.call(function_of(deed), arguments).is_some()
     }
 
-    /// Makes a call with some arguments; the other registers are 0.
+    /// Makes a call with the first 7 of these arguments. The other registers are 0. Returns the registers that the next
+    /// runner sees, or `None` if the call did not succeed.
     pub(crate) fn call(&mut self, function: u32, arguments: &[u64]) -> Option<[u64; 8]> {
         let mut x = [0; 8];
         x[0] = u64::from(function);
@@ -181,7 +185,8 @@ impl<'m, S: Stage + Drop> Generator<'m, S> {
         self.play_call(x)
     }
 
-    /// Plays a call, and learns from what the next runner sees, which it answers where the call is done.
+    /// Plays a call of these registers, and learns from the registers that the next runner sees. Returns those, or
+    /// `None` if the call did not succeed.
     pub(crate) fn play_call(&mut self, x: [u64; 8]) -> Option<[u64; 8]> {
         let caller = self.runner();
         match self.stage.play(&Op::Call(x)) {
@@ -197,7 +202,7 @@ impl<'m, S: Stage + Drop> Generator<'m, S> {
         self.stage.runner()
     }
 
-    /// The runner's buffers, where it has some.
+    /// Returns the runner's buffers, or `None` if it has no buffers.
     pub(crate) fn buffers(&self) -> Option<MappedBuffers> {
         self.known_of(self.runner()).buffers
     }
@@ -207,19 +212,20 @@ impl<'m, S: Stage + Drop> Generator<'m, S> {
         self.manifest.ffa == Ffa::V1_2
     }
 
-    // How many endpoints there are.
+    // Returns the number of endpoints of the machine.
     fn endpoints(&self) -> usize
         ensures { result ≤ MOST_ENDPOINTS }
     {
         self.manifest.endpoints.as_slice().len()
     }
 
-    /// An endpoint, where it is there.
+    /// Returns an endpoint of the manifest, or `None` if the machine has no such endpoint.
     pub(crate) fn endpoint(&self, endpoint: EndpointId) -> Option<&'m Endpoint> {
         self.manifest.endpoints.as_slice().get(endpoint.place())
     }
 
-    /// The form in which an endpoint writes and reads: that which it asked for, and else that which the manifest says.
+    /// Returns the form in which an endpoint writes and reads. This is the form that the endpoint requested, if there
+    /// is one. Otherwise it is the form that the manifest says.
     pub(crate) fn version_of(&self, endpoint: EndpointId) -> Version {
         let given = self
             .endpoint(endpoint)
@@ -227,7 +233,7 @@ impl<'m, S: Stage + Drop> Generator<'m, S> {
         self.known_of(endpoint).version.unwrap_or(given)
     }
 
-    /// Whether an endpoint has these properties.
+    /// Whether an endpoint has all these properties. A machine without this endpoint answers false.
     pub(crate) fn has_properties(&self, endpoint: EndpointId, wanted: Properties) -> bool {
         match self.endpoint(endpoint) {
             Some(endpoint) => endpoint.properties.contains(wanted),
@@ -235,13 +241,14 @@ impl<'m, S: Stage + Drop> Generator<'m, S> {
         }
     }
 
-    /// One of the endpoints.
+    /// Returns one of the endpoints at random.
     pub(crate) fn any_endpoint(&mut self) -> EndpointId {
         let endpoints = self.endpoints();
         EndpointId::at(self.dice.place(endpoints))
     }
 
-    /// An endpoint other than the runner, or one that isn't there where the runner is alone.
+    /// Returns an endpoint other than the runner. If the machine has only one endpoint, it returns an identifier that
+    /// the machine does not have.
     pub(crate) fn another(&mut self) -> EndpointId {
         let endpoints = self.endpoints();
         if endpoints < 2 {
@@ -251,7 +258,8 @@ impl<'m, S: Stage + Drop> Generator<'m, S> {
         EndpointId::at((self.runner().place() + step) % endpoints)
     }
 
-    /// What is known of an endpoint, whose place is below the most endpoints: the remainder is the place itself.
+    /// Returns the generator's knowledge of an endpoint. The endpoint's place is below MOST_ENDPOINTS, so the remainder
+    /// is the place itself.
     pub(crate) fn known_of(&self, endpoint: EndpointId) -> Known {
         self.known[endpoint.place() % MOST_ENDPOINTS]
     }
@@ -260,7 +268,7 @@ impl<'m, S: Stage + Drop> Generator<'m, S> {
         &mut self.known[endpoint.place() % MOST_ENDPOINTS]
     }
 
-    /// Learns from a call that was done, by what the next runner sees.
+    /// Learns from a call that succeeded, by the registers that the next runner sees.
     pub(crate) fn learn(&mut self, caller: EndpointId, call: Call, answer: &[u64; 8]) {
         let runner = self.runner();
         match call {

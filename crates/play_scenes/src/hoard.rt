@@ -1,21 +1,21 @@
 // SPDX-License-Identifier: MIT OR Apache-2.0
-//! An endpoint that gathers pages until it can have as many open transactions as there may be, and asks for one more.
+//! An endpoint that gathers pages until it can have the largest number of open transactions, and then sends one more.
 use crate::generator::Generator;
 use crate::offers::Wish;
 use crate::stage::Stage;
 use ffa_model::{EndpointId, Kind, MOST_OPEN};
 use play_transcript::Change;
 
-/// A time of gathering begins once in so many turns.
+/// A time of gathering begins once in this number of turns.
 const PERIOD: u64 = 300;
 
-/// It ends after so many turns at the latest.
+/// A time of gathering lasts at most this number of turns.
 const LONGEST: u64 = 60;
 
-/// Whoever has so few pages left gives none.
+/// An endpoint that has this number of free pages or fewer donates no page.
 const FEWEST_FREE: u32 = 4;
 
-/// How many pages one gives in a turn.
+/// The number of pages that an endpoint donates in a turn.
 const GIVEN: u32 = 2;
 
 impl<'m, S: Stage + Drop> Generator<'m, S> {
@@ -28,7 +28,7 @@ impl<'m, S: Stage + Drop> Generator<'m, S> {
         }
     }
 
-    /// What an endpoint does in its turn while another, or itself, gathers pages.
+    /// Plays the runner's part while an endpoint gathers pages. The runner can be this endpoint or another one.
     pub(crate) fn play_hoard(&mut self, hoarder: EndpointId) {
         for _ in 0..MOST_OPEN {
             if let Some(offer) = self.any_offer(Wish::Held) {
@@ -43,7 +43,7 @@ impl<'m, S: Stage + Drop> Generator<'m, S> {
         }
     }
 
-    // The runner ends its offers, but for those that somebody holds.
+    // The runner reclaims its transactions, except those that somebody holds.
     fn reclaim_all(&mut self) {
         for _ in 0..MOST_OPEN {
             if let Some(offer) = self.any_offer(Wish::OwnFree) {
@@ -52,7 +52,7 @@ impl<'m, S: Stage + Drop> Generator<'m, S> {
         }
     }
 
-    // The runner donates pages, one at a time, where it has enough.
+    // The runner donates pages to the hoarder, one page at a time, if it has enough pages.
     fn give_pages(&mut self, hoarder: EndpointId) {
         for _ in 0..GIVEN {
             if self.count_free() > FEWEST_FREE {
@@ -61,7 +61,8 @@ impl<'m, S: Stage + Drop> Generator<'m, S> {
         }
     }
 
-    // The runner takes what it was given, and sends as often as it may where it has the pages.
+    // The runner takes the pages that others donated to it. If it then has enough pages, it sends them until it may
+    // open no more transactions.
     fn gather(&mut self) {
         for _ in 0..MOST_OPEN {
             if let Some(offer) = self.any_offer(Wish::ToTake)
@@ -81,7 +82,8 @@ impl<'m, S: Stage + Drop> Generator<'m, S> {
         }
     }
 
-    // The runner sends pages, one at a time, until it may open no more, and then tries each kind.
+    // The runner sends pages, one page at a time, until it may open no more transactions, and then tries a send of each
+    // kind.
     fn send_all(&mut self) {
         let to = self.another();
         for _ in 0..MOST_OPEN {

@@ -9,7 +9,7 @@ use ffa_model::{EndpointId, Properties, Work};
 use play_transcript::{Change, Deed};
 
 impl<'m, S: Stage + Drop> Generator<'m, S> {
-    /// A direct message in either form, with any payload.
+    /// Plays a direct message in either form, with any payload.
     pub(crate) fn direct(&mut self, function: u32, word: u64, flags: u64) {
         let function = self.dice.either(function);
         let first = self.dice.word();
@@ -17,7 +17,7 @@ impl<'m, S: Stage + Drop> Generator<'m, S> {
         self.call(function, &[word, flags, first, second]);
     }
 
-    /// FFA_RUN, FFA_MSG_WAIT or FFA_YIELD as they are refused, or that are done.
+    /// Plays FFA_RUN, FFA_MSG_WAIT or FFA_YIELD, which succeed or are refused.
     pub(crate) fn play_state(&mut self) {
         let other = self.any_endpoint();
         match self.dice.below(6) {
@@ -35,7 +35,7 @@ impl<'m, S: Stage + Drop> Generator<'m, S> {
         };
     }
 
-    /// A direct request, as it should be or changed.
+    /// Plays a direct request, in the right form or with something changed.
     pub(crate) fn play_request(&mut self) {
         let runner = self.runner();
         let other = self.another();
@@ -51,7 +51,7 @@ impl<'m, S: Stage + Drop> Generator<'m, S> {
         self.direct(FFA_MSG_SEND_DIRECT_REQ, pair(sender, receiver.0), flags);
     }
 
-    /// A direct response, as it should be or changed.
+    /// Plays a direct response, in the right form or with something changed.
     pub(crate) fn play_response(&mut self) {
         let runner = self.runner();
         let other = self.another();
@@ -69,7 +69,7 @@ impl<'m, S: Stage + Drop> Generator<'m, S> {
         self.direct(FFA_MSG_SEND_DIRECT_RESP, pair(sender, receiver.0), flags);
     }
 
-    /// An indirect message, as it should be or with something changed.
+    /// Plays an indirect message, in the right form or with something changed.
     pub(crate) fn play_message(&mut self) {
         let change = self.rounds.messages.next_of(&MESSAGES);
         if change == Change::NoBuffers {
@@ -96,7 +96,7 @@ impl<'m, S: Stage + Drop> Generator<'m, S> {
         }
     }
 
-    // What is sent from the runner's TX.
+    // Returns the message that the runner sends from its TX.
     fn message(&mut self, change: Change) -> Message {
         let pages = self.buffers().map_or(1, |buffers| buffers.tx.pages);
         let receiver = match change {
@@ -134,7 +134,8 @@ impl<'m, S: Stage + Drop> Generator<'m, S> {
         message
     }
 
-    // Whom a message goes to: somebody whose RX is empty and has less pages, if there is one.
+    // Returns the receiver of a message that is too large for its RX: if a few tries find one, an endpoint whose RX is
+    // empty and smaller than this number of pages.
     fn smaller_receiver(&mut self, pages: u32) -> EndpointId {
         let mut receiver = self.message_receiver();
         for _ in 0..4 {
@@ -146,7 +147,7 @@ impl<'m, S: Stage + Drop> Generator<'m, S> {
         receiver
     }
 
-    // Whom a message goes to: mostly somebody who takes part in them.
+    // Returns the receiver of a message: mostly an endpoint that takes part in indirect messages.
     fn message_receiver(&mut self) -> EndpointId {
         let mut receiver = self.another();
         for _ in 0..4 {

@@ -1,5 +1,5 @@
 // SPDX-License-Identifier: MIT OR Apache-2.0
-//! Notifications.
+//! Scenes of notifications.
 use crate::changes::BITS;
 use crate::dice::{Dice, Round};
 use crate::generator::{Generator, function_of, halves, pair};
@@ -7,11 +7,12 @@ use crate::stage::Stage;
 use ffa_model::{EndpointId, MOST_PROCESSORS};
 use play_transcript::{Change, Deed};
 
-/// The flags of FFA_NOTIFICATION_GET that ask for all classes.
+/// The flags of FFA_NOTIFICATION_GET that request all classes.
 const ALL_CLASSES: u64 = 15;
 
 impl<'m, S: Stage + Drop> Generator<'m, S> {
-    /// A call on notifications, as it should be or changed. Bitmaps are mostly the normal world's.
+    /// Plays a call on notifications, in the right form or with something changed. Mostly the normal world creates and
+    /// destroys bitmaps.
     pub(crate) fn play_notification(&mut self) {
         let number = if self.runner() == EndpointId::NORMAL_WORLD && self.dice.one_in(3) {
             0
@@ -39,7 +40,8 @@ impl<'m, S: Stage + Drop> Generator<'m, S> {
         self.attempt(Deed::CreateBitmaps, None, change, &arguments);
     }
 
-    // How many execution contexts the normal world may have: in FF-A 1.2 as many as there may be processors.
+    // Returns a number of execution contexts that the normal world may have. In FF-A 1.2 it may have one for each
+    // processor, up to MOST_PROCESSORS.
     fn contexts(&mut self) -> u64 {
         if self.serves_1_2() {
             1 + u64::from(self.dice.below(MOST_PROCESSORS as u32))
@@ -48,7 +50,7 @@ impl<'m, S: Stage + Drop> Generator<'m, S> {
         }
     }
 
-    // How many it can't have.
+    // Returns a number of execution contexts that the normal world cannot have.
     fn wrong_contexts(&mut self) -> u64 {
         if self.serves_1_2() {
             self.dice.pick(&[0, MOST_PROCESSORS as u64 + 1])
@@ -57,7 +59,8 @@ impl<'m, S: Stage + Drop> Generator<'m, S> {
         }
     }
 
-    // What is pending is got between two tries, so that the bitmaps can go. Then what needs them is tried.
+    // Gets the pending bits between two tries, so that the bitmaps can be destroyed. Then tries the calls that need
+    // bitmaps.
     fn play_destroy(&mut self) {
         if self.known_of(self.runner()).pending {
             self.destroy(0, Change::Pending);
@@ -100,7 +103,8 @@ impl<'m, S: Stage + Drop> Generator<'m, S> {
         self.attempt(Deed::GetBits, None, change, &[word, classes]);
     }
 
-    /// FFA_NOTIFICATION_INFO_GET in either form, sometimes twice. A partition, which may not make this call, seldom does.
+    /// Plays FFA_NOTIFICATION_INFO_GET in either form, sometimes twice. A partition may not make this call, and seldom
+    /// tries it.
     pub(crate) fn play_notices(&mut self) {
         if self.runner() == EndpointId::NORMAL_WORLD {
             self.ask_notices();
@@ -118,7 +122,8 @@ impl<'m, S: Stage + Drop> Generator<'m, S> {
         self.call(function, &[]);
     }
 
-    // Binds or unbinds bits that another endpoint may set, or sets bits of another, and answers whether that is done.
+    // Binds or unbinds bits that another endpoint may set, or sets bits of another endpoint. Returns whether the call
+    // succeeded.
     fn call_on_bits(&mut self, deed: Deed, other: EndpointId, bits: u64, change: Change) -> bool {
         let runner = self.runner();
         let (other, caller) = match change {
@@ -150,7 +155,7 @@ impl<'m, S: Stage + Drop> Generator<'m, S> {
         }
     }
 
-    // Binds bits that are bound to a sender, to another one if there is one.
+    // Binds bits that are bound to a sender, to another sender if there is one.
     fn bind_taken(&mut self, bits: u64, sender: EndpointId) {
         let mut other = self.another();
         for _ in 0..4 {
@@ -161,7 +166,8 @@ impl<'m, S: Stage + Drop> Generator<'m, S> {
         self.call_on_bits(Deed::Bind, other, bits, Change::Taken);
     }
 
-    // Mostly of the bits that were bound last, got before so that none is pending.
+    // Unbinds mostly the bits that the runner bound last. It mostly gets the pending bits first, so that no bit is
+    // pending.
     fn play_unbind(&mut self) {
         let other = self.another();
         let some = self.dice.bits();
@@ -174,7 +180,7 @@ impl<'m, S: Stage + Drop> Generator<'m, S> {
         self.call_on_bits(Deed::Unbind, sender, bits, change);
     }
 
-    // Mostly of bits that somebody bound to the runner.
+    // Sets mostly bits that another endpoint bound to the runner.
     fn play_set(&mut self) {
         let runner = self.runner();
         let receiver = self.another();
@@ -188,7 +194,7 @@ impl<'m, S: Stage + Drop> Generator<'m, S> {
     }
 }
 
-// Half of the time nothing is changed, and else one thing after another.
+// Returns no change in half of the cases, and otherwise the next change in turn.
 fn half_of(dice: &mut Dice, round: &mut Round) -> Change {
     if dice.one_in(2) {
         round.next_of(&BITS)
@@ -198,7 +204,7 @@ fn half_of(dice: &mut Dice, round: &mut Round) -> Change {
 }
 
 impl Dice {
-    // Some bits, mostly the lowest ones, so that endpoints meet.
+    // Returns some bits, mostly the lowest ones, so that endpoints use the same bits.
     fn bits(&mut self) -> u64 {
         let bit = 1 << self.below(64);
         self.pick(&[1, 2, 3, 4, 1 << 32, bit])

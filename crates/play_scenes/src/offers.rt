@@ -1,19 +1,19 @@
 // SPDX-License-Identifier: MIT OR Apache-2.0
-//! Memory transactions, as they are sent and as long as they are open.
+//! Memory transactions, as an endpoint sends them and while they are open.
 use crate::pages::has_address;
 use arrayvec::ArrayVec;
 use ffa_model::{Data, EndpointId, Kind, Range, Receiver, SendDesc};
 
-/// The most open transactions that are kept in mind: 16 of each of eight endpoints.
+/// The largest number of open transactions that the generator remembers: 16 for each of eight endpoints.
 const MOST_OFFERS: usize = 128;
 
-/// The most receivers of a transaction that is made.
+/// The largest number of receivers in a transaction that the generator makes.
 pub(crate) const MOST_TAKERS: usize = 2;
 
-/// The most ranges of one.
+/// The largest number of ranges in a transaction that the generator makes.
 pub(crate) const MOST_PARTS: usize = 3;
 
-/// A receiver of a transaction, what it is granted, and whether it holds it.
+/// A receiver of a transaction, its grant, and whether the receiver holds the transaction.
 #[derive(Clone, Copy)]
 pub(crate) struct Taker {
     pub endpoint: EndpointId,
@@ -21,38 +21,38 @@ pub(crate) struct Taker {
     pub holds: bool,
 }
 
-/// A transaction.
+/// A memory transaction.
 #[derive(Clone, Copy)]
 pub(crate) struct Offer {
-    /// 0 until it is sent.
+    /// The handle of the transaction, which is 0 until the transaction is sent.
     pub handle: u64,
     pub sender: EndpointId,
     pub kind: Kind,
-    /// Whether its pages are to be zeroed before they are offered.
+    /// Whether the manager must zero the pages before it offers them.
     pub zero: bool,
     pub tag: u64,
     pub takers: [Option<Taker>; MOST_TAKERS],
-    /// Its ranges, some of which may have no page.
+    /// The ranges of the transaction. Some of these ranges may have no page.
     pub parts: [Range; MOST_PARTS],
 }
 
-/// Which transactions are looked for, from an endpoint's side.
+/// The kinds of transactions that an endpoint can look for.
 #[derive(Clone, Copy)]
 pub(crate) enum Wish {
-    /// It is offered to the endpoint, which doesn't hold it.
+    /// The transaction is offered to the endpoint, which does not hold it.
     ToTake,
-    /// The endpoint holds it.
+    /// The endpoint holds the transaction.
     Held,
-    /// The endpoint sent it, and nobody holds it.
+    /// The endpoint sent the transaction, and nobody holds it.
     OwnFree,
-    /// The endpoint sent it, and somebody holds it.
+    /// The endpoint sent the transaction, and somebody holds it.
     OwnHeld,
-    /// The endpoint has no part in it.
+    /// The endpoint has no part in the transaction.
     OfOthers,
 }
 
 impl Offer {
-    /// An endpoint as one of its receivers.
+    /// Returns an endpoint as one of the receivers, or `None` if it is no receiver.
     pub(crate) fn taker(&self, endpoint: EndpointId) -> Option<Taker> {
         for taker in self.takers.iter().flatten() {
             if taker.endpoint == endpoint {
@@ -62,7 +62,7 @@ impl Offer {
         None
     }
 
-    /// A receiver other than an endpoint, if there is one.
+    /// Returns a receiver other than an endpoint, or `None` if there is no other receiver.
     pub(crate) fn other_taker(&self, endpoint: EndpointId) -> Option<EndpointId> {
         for taker in self.takers.iter().flatten() {
             if taker.endpoint != endpoint {
@@ -72,7 +72,7 @@ impl Offer {
         None
     }
 
-    // Whether it is what an endpoint looks for.
+    // Whether the transaction is of the kind that an endpoint looks for.
     fn fits(&self, wish: Wish, endpoint: EndpointId) -> bool {
         let taker = self.taker(endpoint);
         let is_own = self.sender == endpoint;
@@ -86,7 +86,7 @@ impl Offer {
         }
     }
 
-    /// What its descriptor says.
+    /// Returns the content of the transaction's descriptor.
     pub(crate) fn describe(&self) -> SendDesc {
         let mut desc = SendDesc {
             sender: self.sender,
@@ -125,7 +125,7 @@ impl Offers {
         }
     }
 
-    /// Keeps a transaction in mind, where there is room.
+    /// Remembers a transaction, if there is room.
     pub(crate) fn add(&mut self, offer: Offer) {
         for slot in &mut self.open {
             if slot.is_none() {
@@ -144,7 +144,7 @@ impl Offers {
         }
     }
 
-    /// An endpoint holds the transaction with this handle, or no longer.
+    /// Notes whether an endpoint holds the transaction with this handle.
     pub(crate) fn set_held(&mut self, handle: u64, endpoint: EndpointId, holds: bool) {
         for offer in self.open.iter_mut().flatten() {
             if offer.handle == handle {
@@ -157,13 +157,14 @@ impl Offers {
         }
     }
 
-    /// How many are what an endpoint looks for.
+    /// Returns the number of transactions of the kind that an endpoint looks for.
     pub(crate) fn count(&self, wish: Wish, endpoint: EndpointId) -> usize {
         let open = self.open.iter().flatten();
         open.filter(|offer| offer.fits(wish, endpoint)).count()
     }
 
-    /// That of those at a place, counted from 0.
+    /// Returns one of the transactions of the kind that an endpoint looks for, by its place among them. Places begin at
+    /// 0. Returns `None` if there are not enough of them.
     pub(crate) fn nth(&self, wish: Wish, endpoint: EndpointId, place: usize) -> Option<Offer> {
         let open = self.open.iter().flatten();
         let mut fitting = open.filter(|offer| offer.fits(wish, endpoint));

@@ -1,13 +1,13 @@
 // SPDX-License-Identifier: MIT OR Apache-2.0
-//! Which pages there are, and whose they are.
+//! The pages of the machine, and their owners.
 use crate::generator::{Generator, MappedBuffers};
 use crate::stage::Stage;
 use ffa_model::{Data, Endpoint, Range};
 
-/// How many bytes a page has.
+/// The size of a page in bytes.
 pub const PAGE: u64 = 4096;
 
-/// How many pages are looked at, at most, where one is sought.
+/// The largest number of pages at which a search for a page looks.
 const MOST_LOOKS: u64 = 512;
 
 /// Whether an address is in a range.
@@ -20,7 +20,7 @@ pub(crate) fn meet(one: Range, other: Range) -> bool {
     has_address(one, other.address) || has_address(other, one.address)
 }
 
-// How many pages the regions of these endpoints have.
+// Returns the number of pages in the regions of these endpoints.
 fn count_pages(endpoints: &[Endpoint]) -> u64 {
     let mut total = 0;
     for endpoint in endpoints {
@@ -31,7 +31,8 @@ fn count_pages(endpoints: &[Endpoint]) -> u64 {
     total
 }
 
-// The address of a page of the regions of these endpoints, by its place among them.
+// Returns the address of a page of the regions of these endpoints, by its place among the pages of these regions, or 0
+// if there is no such page.
 fn address_of(endpoints: &[Endpoint], place: u64) -> u64 {
     let mut left = place;
     for endpoint in endpoints {
@@ -46,7 +47,8 @@ fn address_of(endpoints: &[Endpoint], place: u64) -> u64 {
 }
 
 impl<'m, S: Stage + Drop> Generator<'m, S> {
-    /// The runner's data right to a page of its own that it could send, or make a buffer; none where it couldn't.
+    /// Returns the runner's data right to a page of its own that it could send or use as a buffer. Returns `None` for
+    /// any other page.
     pub(crate) fn free_level(&self, address: u64) -> Option<Data> {
         let runner = self.runner();
         let rights = self.stage.access(runner, address)?;
@@ -61,7 +63,8 @@ impl<'m, S: Stage + Drop> Generator<'m, S> {
         Some(rights.level)
     }
 
-    /// So many pages side by side that the runner could send, with this right to each: mostly of its own regions.
+    /// Returns a run of this number of pages that the runner could send, with this right to each page. The search
+    /// mostly begins at the runner's own regions. Returns `None` if it finds no such run.
     pub(crate) fn free_run(&mut self, pages: u32, level: Data) -> Option<Range> {
         let endpoints = self.manifest.endpoints.as_slice();
         let total = count_pages(endpoints).max(1);
@@ -91,7 +94,8 @@ impl<'m, S: Stage + Drop> Generator<'m, S> {
         true
     }
 
-    /// How many pages the runner could send, and may write.
+    /// Returns the number of pages that the runner could send and may write. It looks at the first 512 pages of the
+    /// regions only.
     pub(crate) fn count_free(&self) -> u32 {
         let endpoints = self.manifest.endpoints.as_slice();
         let mut count = 0;
@@ -103,14 +107,15 @@ impl<'m, S: Stage + Drop> Generator<'m, S> {
         count
     }
 
-    /// A page of the regions, whosever it is.
+    /// Returns the address of a page of the regions, which can have any owner.
     pub(crate) fn any_page(&mut self) -> u64 {
         let endpoints = self.manifest.endpoints.as_slice();
         let total = count_pages(endpoints).max(1);
         address_of(endpoints, self.dice.word() % total)
     }
 
-    /// A page of RAM that the runner couldn't send: of another, of a buffer, in a transaction or of the tables.
+    /// Returns the address of a page of RAM that the runner could not send: a page of another endpoint, of a buffer, of
+    /// an open transaction or of the tables.
     pub(crate) fn unfit_page(&mut self) -> u64 {
         let base = self.stage.ram_base();
         match self.dice.below(4) {

@@ -8,18 +8,20 @@ use crate::stage::Stage;
 use ffa_model::{Data, EndpointId, Kind, RelinquishDesc, RetrieveDesc};
 use play_transcript::{Change, Deed};
 
-/// Whoever may write so few pages takes no donated page without that right.
+/// An endpoint that may write this number of pages or fewer takes no donated page without the right to write it.
 const FEWEST_WRITABLE: u32 = 8;
 
 impl<'m, S: Stage + Drop> Generator<'m, S> {
-    /// One of the transactions that the runner looks for.
+    /// Returns one of the transactions of the kind that the runner looks for, or `None` if there is no such
+    /// transaction.
     pub(crate) fn any_offer(&mut self, wish: Wish) -> Option<Offer> {
         let runner = self.runner();
         let place = self.dice.place(self.offers.count(wish, runner));
         self.offers.nth(wish, runner, place)
     }
 
-    /// Takes what is offered to the runner, or asks for what it holds or what isn't offered to it.
+    /// Retrieves a transaction that is offered to the runner. In some cases the runner holds it already, or has no part
+    /// in it.
     pub(crate) fn play_retrieve(&mut self) {
         let (wish, change) = match self.dice.below(20) {
             0 | 1 => (Wish::OfOthers, Change::NotOffered),
@@ -31,14 +33,14 @@ impl<'m, S: Stage + Drop> Generator<'m, S> {
         }
     }
 
-    /// Asks for what may be held of an offer. RX is mostly empty before and behind.
+    /// Retrieves a transaction with access that the runner may have. RX is mostly empty before and after.
     pub(crate) fn take(&mut self, offer: &Offer, change: Change) {
         let desc = self.fitting(offer);
         self.release_mostly();
         self.retrieve(desc, offer, change);
     }
 
-    /// A retrieve with something changed.
+    /// Plays a retrieve with something changed.
     pub(crate) fn play_turned_retrieve(&mut self) {
         if let Some(offer) = self.any_offer(Wish::ToTake) {
             let mut desc = self.fitting(&offer);
@@ -61,8 +63,8 @@ impl<'m, S: Stage + Drop> Generator<'m, S> {
         }
     }
 
-    /// A retrieve that names all receivers, or others, or only the runner with bit 10 of the flags. Mostly the transaction has
-    /// two receivers.
+    /// Plays a retrieve that names all receivers, or others, or only the runner with bit 10 of the flags. Mostly the
+    /// transaction has two receivers.
     pub(crate) fn play_naming_retrieve(&mut self) {
         if let Some(offer) = self.offer_to_two() {
             let change = self.rounds.names.next_of(&NAMES);
@@ -78,7 +80,7 @@ impl<'m, S: Stage + Drop> Generator<'m, S> {
         }
     }
 
-    // A transaction that the runner may take, with two receivers if a few tries find one.
+    // Returns a transaction that the runner may take, with two receivers if a few tries find one.
     fn offer_to_two(&mut self) -> Option<Offer> {
         let mut offer = self.any_offer(Wish::ToTake)?;
         for _ in 0..4 {
@@ -89,7 +91,7 @@ impl<'m, S: Stage + Drop> Generator<'m, S> {
         Some(offer)
     }
 
-    // The endpoints that a retrieve of the runner names, and how many of the array they are.
+    // Returns the endpoints that a retrieve of the runner names: an array, and how many of its items count.
     fn names(&mut self, offer: &Offer, change: Change) -> ([EndpointId; MOST_NAMED], usize) {
         let runner = self.runner();
         let wrong = self.no_taker(offer);
@@ -109,7 +111,7 @@ impl<'m, S: Stage + Drop> Generator<'m, S> {
         }
     }
 
-    // An endpoint that is no receiver of a transaction, or the identifier of none.
+    // Returns an endpoint that is no receiver of a transaction, or an identifier that no endpoint has.
     fn no_taker(&mut self, offer: &Offer) -> EndpointId {
         let other = self.another();
         if offer.taker(other).is_some() || self.dice.one_in(4) {
@@ -119,7 +121,7 @@ impl<'m, S: Stage + Drop> Generator<'m, S> {
         }
     }
 
-    // A retrieve that asks for what may be held.
+    // Returns a retrieve that requests access that the runner may have.
     fn fitting(&mut self, offer: &Offer) -> RetrieveDesc {
         let grant = offer.taker(self.runner()).and_then(|taker| taker.grant);
         let level = match grant {
@@ -137,14 +139,14 @@ impl<'m, S: Stage + Drop> Generator<'m, S> {
         }
     }
 
-    // What is asked for of donated pages. A right that isn't taken is gone for good.
+    // Returns the data right that the runner requests to donated pages. A right that it does not take is lost for good.
     fn donated_level(&mut self) -> Option<Data> {
         let is_first = self.free_run(1, Data::Ro).is_none();
         let times = if is_first { 2 } else { 16 };
         (self.dice.one_in(times) && self.count_free() > FEWEST_WRITABLE).then_some(Data::Ro)
     }
 
-    // Makes a retrieve, and reads what it gives. A donate is open no more where it is taken.
+    // Makes a retrieve, and reads the pages that it maps. After a retrieve, a donate is no longer open.
     fn retrieve(&mut self, desc: RetrieveDesc, offer: &Offer, change: Change) {
         if change == Change::NoBuffers {
             return self.attempt_without_buffers(Deed::Retrieve, &[64, 64]);
@@ -152,7 +154,7 @@ impl<'m, S: Stage + Drop> Generator<'m, S> {
         self.retrieve_by(&Descriptor::Retrieve(desc), offer, change);
     }
 
-    // Makes a retrieve by a descriptor, where the runner has buffers.
+    // Makes a retrieve by a descriptor, if the runner has buffers or can map some.
     fn retrieve_by(&mut self, descriptor: &Descriptor, offer: &Offer, change: Change) {
         if !self.need_buffers() {
             return;
@@ -173,14 +175,15 @@ impl<'m, S: Stage + Drop> Generator<'m, S> {
         self.release_mostly();
     }
 
-    // A response stands in the runner's RX.
+    // Notes that a response is in the runner's RX.
     fn fill_by_response(&mut self, answer: &[u64; 8]) {
         let runner = self.runner();
         let bytes = (answer[1] % (1 << 32)) as u32;
         self.known_mut(runner).fill_rx(bytes);
     }
 
-    /// The normal world reads back what it sent, or tries it with what another sent. A partition, which may not, seldom does.
+    /// Plays a hypervisor's retrieve, by which the normal world reads back the descriptor of its own transaction.
+    /// Sometimes it tries this with a transaction of another. A partition may not do this, and seldom tries.
     pub(crate) fn play_read_back(&mut self) {
         if self.runner() != EndpointId::NORMAL_WORLD && !self.dice.one_in(8) {
             return;
@@ -221,7 +224,8 @@ impl<'m, S: Stage + Drop> Generator<'m, S> {
         self.release_mostly();
     }
 
-    /// Gives up what the runner holds, with one thing after another changed, or tries it with what it doesn't hold.
+    /// Plays FFA_MEM_RELINQUISH of a transaction that the runner holds, with one change after another. Sometimes the
+    /// runner does not hold it.
     pub(crate) fn play_relinquish(&mut self) {
         if self.dice.one_in(16) {
             return self.attempt_without_buffers(Deed::Relinquish, &[]);
@@ -236,7 +240,7 @@ impl<'m, S: Stage + Drop> Generator<'m, S> {
         }
     }
 
-    /// Gives up an offer, with something changed or not.
+    /// Relinquishes a transaction, with something changed or not.
     pub(crate) fn give_up(&mut self, offer: &Offer, change: Change) {
         if !self.need_buffers() {
             return;
@@ -259,7 +263,8 @@ impl<'m, S: Stage + Drop> Generator<'m, S> {
         }
     }
 
-    /// Ends an offer of the runner, or tries it with one that is held or of another.
+    /// Plays FFA_MEM_RECLAIM of a transaction of the runner. Sometimes somebody holds the transaction, or another
+    /// endpoint sent it.
     pub(crate) fn play_reclaim(&mut self) {
         let (wish, change) = self.dice.pick(&[
             (Wish::OwnFree, Change::Nothing),
@@ -279,7 +284,7 @@ impl<'m, S: Stage + Drop> Generator<'m, S> {
         }
     }
 
-    /// FFA_MEM_RECLAIM.
+    /// Calls FFA_MEM_RECLAIM, and forgets the transaction if the call succeeds.
     pub(crate) fn reclaim(&mut self, handle: u64, flags: u64, change: Change) {
         let [low, high] = halves(handle);
         if self.attempt(Deed::Reclaim, None, change, &[low, high, flags]) {

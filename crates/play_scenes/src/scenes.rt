@@ -19,13 +19,14 @@ macro_rules! play_one {
     };
 }
 
-/// The most scenes of a turn.
+/// The largest number of scenes in a turn.
 const MOST_SCENES: u32 = 4;
 
 /// On a machine of FF-A 1.2, one scene in this number has calls that FF-A 1.1 does not have.
 const LATER_SCENES: u32 = 8;
 
-/// The most calls until an endpoint runs: each blocked one is answered once, and the normal world gives cycles then.
+/// The largest number of calls until an endpoint runs. Each blocked endpoint answers once, and then the normal world
+/// gives cycles.
 const MOST_CALLS: usize = 12;
 
 impl<'m, S: Stage + Drop> Generator<'m, S> {
@@ -38,7 +39,7 @@ impl<'m, S: Stage + Drop> Generator<'m, S> {
         }
     }
 
-    // A scene of what only a machine of FF-A 1.2 has.
+    // Plays a scene of calls and forms that only a machine of FF-A 1.2 has.
     fn play_later_scene(&mut self) {
         play_one! { self;
             3 play_notices
@@ -47,7 +48,7 @@ impl<'m, S: Stage + Drop> Generator<'m, S> {
         }
     }
 
-    // A scene of what each machine has.
+    // Plays a scene of calls and accesses that each machine has.
     fn play_any_scene(&mut self) {
         play_one! { self;
             2 play_setup
@@ -73,7 +74,7 @@ impl<'m, S: Stage + Drop> Generator<'m, S> {
         }
     }
 
-    // The endpoint whose turn it is comes to run, and plays some scenes.
+    // Makes calls until the endpoint whose turn it is runs, and plays some of its scenes.
     fn play_scenes(&mut self) {
         let actor = self.stage.actor_of(self.turns);
         self.plan_hoard();
@@ -93,7 +94,8 @@ impl<'m, S: Stage + Drop> Generator<'m, S> {
         }
     }
 
-    // Mostly the table of accesses, which is read quicker than the certificate.
+    // Adds a line for the table of accesses or, in one of eight cases, for the certificate. A reader needs less time
+    // for the table.
     fn play_show(&mut self) {
         self.announce(Deed::Show, None, Change::Nothing);
         let is_audit = self.dice.one_in(8);
@@ -119,7 +121,8 @@ impl<'m, S: Stage + Drop> Generator<'m, S> {
         }
     }
 
-    // The normal world gives a partition cycles, or sends it a request where it may.
+    // The normal world gives a partition cycles by FFA_RUN. Sometimes it sends the partition a direct request instead,
+    // if it may and the partition waits.
     fn set_going(&mut self, partition: EndpointId) {
         let normal_world = EndpointId::NORMAL_WORLD;
         let may_ask = self.has_properties(normal_world, Properties::SENDS_DIRECT_REQUESTS)
@@ -132,7 +135,7 @@ impl<'m, S: Stage + Drop> Generator<'m, S> {
         }
     }
 
-    // The runner answers what it was asked or waits, or gives back its cycles.
+    // The runner answers its direct request, waits, or returns its cycles.
     fn stop_running(&mut self, runner: EndpointId) {
         match self.known_of(runner).work {
             Some(Work::Request(sender)) => {

@@ -1,5 +1,5 @@
 // SPDX-License-Identifier: MIT OR Apache-2.0
-//! Sends: shares, lends and donates, as they should be and with something changed.
+//! Sends (FFA_MEM_SHARE, FFA_MEM_LEND and FFA_MEM_DONATE), in the right form and with something changed.
 use crate::changes::{READ_ONLY_SENDS, SENDS};
 use crate::descriptors::{Descriptor, deed_of};
 use crate::dice::Dice;
@@ -10,13 +10,13 @@ use crate::stage::Stage;
 use ffa_model::{Data, EndpointId, Kind, Range};
 use play_transcript::Change;
 
-/// Whoever has so few pages left gives none away for good.
+/// An endpoint that has this number of free pages or fewer donates no page.
 const FEWEST_FREE: u32 = 6;
 
 const KINDS: [Kind; 3] = [Kind::Share, Kind::Lend, Kind::Donate];
 
 impl<'m, S: Stage + Drop> Generator<'m, S> {
-    /// A send of a kind that should be done.
+    /// Plays a send of any kind that should succeed.
     pub(crate) fn play_send(&mut self) {
         let kind = self.dice.pick(&KINDS);
         let is_poor = kind == Kind::Donate && self.count_free() <= FEWEST_FREE;
@@ -26,7 +26,7 @@ impl<'m, S: Stage + Drop> Generator<'m, S> {
         }
     }
 
-    /// A send with something changed: each kind with each change in turn.
+    /// Plays a send with something changed: each kind with each change in turn.
     pub(crate) fn play_turned_send(&mut self) {
         let number = self.rounds.sends.below(KINDS.len() * SENDS.len());
         let kind = KINDS[number % KINDS.len()];
@@ -56,8 +56,9 @@ impl<'m, S: Stage + Drop> Generator<'m, S> {
         }
     }
 
-    /// A send of a page that the runner may only read, where it has one: with a grant to write, with zeros, or as it should be.
-    /// Then the page is taken back, with zeros, which the runner may not write, and without.
+    /// Plays a send of a page that the runner may only read, if it has one: with a grant to write, with zeros, or in
+    /// the right form. If a send in the right form succeeds, the runner tries to reclaim the page with zeros, which it
+    /// may not write. Then it reclaims the page without zeros.
     pub(crate) fn play_read_only(&mut self) {
         if let Some(page) = self.free_run(1, Data::Ro)
             && self.need_buffers()
@@ -76,7 +77,7 @@ impl<'m, S: Stage + Drop> Generator<'m, S> {
         }
     }
 
-    /// Sends a page that the runner has to one receiver, where it has one.
+    /// Sends one receiver a page of the runner, if the runner has a page that it could send and may write.
     pub(crate) fn send_free_page(&mut self, kind: Kind, to: EndpointId, change: Change) {
         if let Some(page) = self.free_run(1, Data::Rw) {
             let taker = self.dice.taker(kind, to);
@@ -90,7 +91,7 @@ impl<'m, S: Stage + Drop> Generator<'m, S> {
         self.send(offer, change);
     }
 
-    // What the runner is to send.
+    // Returns the transaction that the runner will send.
     fn offer(
         &self,
         kind: Kind,
@@ -108,8 +109,8 @@ impl<'m, S: Stage + Drop> Generator<'m, S> {
         }
     }
 
-    // One receiver, or for a share or a lend two, and one to three ranges of the runner's own, of one of these sizes each and with no
-    // page twice; of no page where it has none.
+    // Chooses one receiver, or sometimes two for a share or a lend, and up to three ranges of the runner's own. Each
+    // range has one of these sizes, and no page is in two ranges. A range has no page if the runner has no fitting run.
     fn choose(&mut self, kind: Kind, sizes: &[u32; 3]) -> Offer {
         let first = self.another();
         let mut takers = [Some(self.dice.taker(kind, first)), None];
@@ -131,7 +132,8 @@ impl<'m, S: Stage + Drop> Generator<'m, S> {
         self.offer(kind, takers, parts)
     }
 
-    // Makes a send, and keeps it in mind where it is done. A page that is only read is taken back at once.
+    // Makes a send, and remembers it if it succeeds. If the runner may only read the page, it reclaims the page at
+    // once.
     fn send(&mut self, mut offer: Offer, change: Change) {
         offer.zero = offer.kind != Kind::Share
             && match change {
@@ -157,7 +159,7 @@ impl<'m, S: Stage + Drop> Generator<'m, S> {
 }
 
 impl Dice {
-    // A receiver, and what it is granted.
+    // Returns a receiver, and its grant for a send of this kind.
     fn taker(&mut self, kind: Kind, endpoint: EndpointId) -> Taker {
         let grant = match kind {
             Kind::Donate => None,

@@ -7,7 +7,7 @@ use ffa_model::function::*;
 use ffa_model::{Ffa, Version};
 use play_transcript::{Change, Deed};
 
-/// Identifiers that FFA_FEATURES is asked about.
+/// The identifiers about which the runner calls FFA_FEATURES.
 const ASKED: [u32; 10] = [
     FFA_RXTX_MAP,
     FFA_RXTX_MAP_64,
@@ -21,7 +21,7 @@ const ASKED: [u32; 10] = [
     0,
 ];
 
-/// Identifiers of no call: results, 64-bit forms that there aren't, and neighbours of calls.
+/// Identifiers that are no call: results, 64-bit forms that do not exist, and neighbours of calls.
 const NO_CALLS: [u32; 10] = [
     FFA_ERROR,
     FFA_SUCCESS,
@@ -35,7 +35,7 @@ const NO_CALLS: [u32; 10] = [
     FFA_ERROR - 1,
 ];
 
-/// The form of who asked a machine of FF-A 1.2 for the version that a word names.
+/// Returns the form of an endpoint that requested this version of a machine of FF-A 1.2, by the word of FFA_VERSION.
 pub(crate) fn form_of(word: u32) -> Version {
     match word % 0x1_0000 {
         0 => Version::Compact,
@@ -45,7 +45,7 @@ pub(crate) fn form_of(word: u32) -> Version {
 }
 
 impl<'m, S: Stage + Drop> Generator<'m, S> {
-    /// A setup call.
+    /// Plays FFA_VERSION, FFA_FEATURES, FFA_ID_GET or FFA_SPM_ID_GET.
     pub(crate) fn play_setup(&mut self) {
         let (function, argument) = match self.dice.below(4) {
             0 => (FFA_VERSION, self.version_word()),
@@ -57,8 +57,8 @@ impl<'m, S: Stage + Drop> Generator<'m, S> {
         self.call(function, &[argument]);
     }
 
-    // A word of FFA_VERSION. A machine of FF-A 1.2 refuses one of another form than the runner's where that has buffers, and else
-    // keeps the form.
+    // Returns a word for FFA_VERSION. A machine of FF-A 1.2 refuses a form other than the runner's if the runner has
+    // buffers. Otherwise the machine keeps the form.
     fn version_word(&mut self) -> u64 {
         match self.manifest.ffa {
             Ffa::V1_1 => self
@@ -76,7 +76,8 @@ impl<'m, S: Stage + Drop> Generator<'m, S> {
         }
     }
 
-    /// On a machine of FF-A 1.2 a runner without buffers asks for a version, if it never did and now and then.
+    /// Requests a version for a runner without buffers on a machine of FF-A 1.2. It does so if the runner never
+    /// requested one, and in one of four other cases.
     pub(crate) fn ask_version(&mut self) {
         if self.serves_1_2()
             && (self.known_of(self.runner()).version.is_none() || self.dice.one_in(4))
@@ -87,7 +88,8 @@ impl<'m, S: Stage + Drop> Generator<'m, S> {
         }
     }
 
-    /// FFA_PARTITION_INFO_GET: without buffers, with RX full, or by the UUID Nil, an endpoint's or nobody's.
+    /// Plays FFA_PARTITION_INFO_GET: without buffers, with RX full, or by a UUID. The UUID is the Nil UUID, an
+    /// endpoint's UUID or nobody's.
     pub(crate) fn play_information(&mut self) {
         let number = self.dice.below(6);
         if number == 0 {
@@ -120,7 +122,7 @@ impl<'m, S: Stage + Drop> Generator<'m, S> {
         self.attempt(Deed::Information, None, change, &[w1, w2, w3, w4, flags]);
     }
 
-    /// What is mostly the identifier of no call, or any word.
+    /// Plays a call whose identifier is mostly no call, or else any word.
     pub(crate) fn play_no_call(&mut self) {
         let function = if self.dice.one_in(3) {
             self.dice.word()

@@ -1,41 +1,44 @@
 // SPDX-License-Identifier: MIT OR Apache-2.0
-//! What a generator plays on, as it sees it: with no clauses, since nothing is proved of what comes of an operation.
+//! The stage on which a generator plays, as the generator sees it. The trait has no clauses, because nothing is proved
+//! of the results of operations.
 use ffa_model::{EndpointId, Op, Outcome, Rights};
 use play_transcript::{GenerateError, TraceEntry};
 
-/// A machine, and the lines of a turn that is played on it. Once a line can't be added, since the turn has all its lines or there
-/// is no memory for it, the turn is over: nothing more is added or played, which the stage keeps in mind until the next turn.
+/// A machine, and the lines of the turn that a generator plays on it. A line cannot be added if the turn has all its
+/// lines, or if there is no memory for the line. Then the turn is over. The stage adds and plays nothing more until the
+/// next turn.
 pub trait Stage {
-    /// Begins a turn of at most so many lines.
+    /// Begins a turn of at most `most` lines.
     fn begin(&mut self, most: u64);
 
-    /// The lines of this turn, where there was memory for each.
+    /// Returns the lines of this turn. It fails if there was no memory for one of them.
     fn entries(&self) -> Result<&[TraceEntry], GenerateError>;
 
-    /// Adds a line, where there may be one more.
+    /// Adds a line, unless the turn is over.
     fn put(&mut self, entry: TraceEntry);
 
-    /// Plays an operation, adds its line, and answers what came of it. Nothing is played where no line can be added.
+    /// Plays an operation, adds its line, and returns its outcome. If no line can be added, it plays nothing and
+    /// returns `None`.
     fn play(&mut self, op: &Op) -> Option<Outcome>;
 
-    /// The endpoint whose turn it is.
+    /// Returns the endpoint whose turn it is, by the number of the turn.
     fn actor_of(&self, turn: u64) -> EndpointId;
 
-    /// The endpoint that runs.
+    /// Returns the endpoint that runs.
     fn runner(&self) -> EndpointId;
 
-    /// The owner of the page at an address: the manager where that is outside RAM.
+    /// Returns the owner of the page at an address, or the manager if the address is outside RAM.
     fn owner_of(&self, address: u64) -> EndpointId;
 
-    /// What an endpoint may do with the page at an address.
+    /// Returns what an endpoint may do with the page at an address, or `None` if it has no access.
     fn access(&self, endpoint: EndpointId, address: u64) -> Option<Rights>;
 
-    /// The word at an address of RAM.
+    /// Returns the word of 8 bytes at an address, or `None` if the address is outside RAM.
     fn word_at(&self, address: u64) -> Option<u64>;
 
-    /// The address of RAM's first byte.
+    /// Returns the address of RAM's first byte.
     fn ram_base(&self) -> u64;
 
-    /// The address behind RAM's last byte.
+    /// Returns the first address after RAM.
     fn ram_end(&self) -> u64;
 }

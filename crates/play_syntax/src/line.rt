@@ -1,5 +1,5 @@
 // SPDX-License-Identifier: MIT OR Apache-2.0
-//! The words of a trace's lines. Each function is inlined, though plays on machines of four kinds call it.
+//! Reads the words of a trace's lines. Each function is inlined, although plays on machines of four kinds call it.
 ghost use Rattle.std.specs.Prelude.{◌≡◌, ◌<◌, ◌≤◌, ◌+◌, ◌*◌, ◌^◌, ℕ, length, nat_lt, replicate, Some, None, option_and_then, option_map, if◌then◌else◌};
 ghost use Rattle.ffa_model.specs.declared.operation.Op.TheVariants.{Call, Load, Store, Fetch};
 ghost use Rattle.play_syntax.specs.TraceLines.{operate, size_named, size_written, call_of, load_of, store_of, fetch_of, turn, turn_of, words_of};
@@ -7,18 +7,18 @@ ghost use Rattle.play_syntax.specs.Parsed.{AreDigits, GoesOn, IsFront, IsStored,
 
 use ffa_model::Size;
 
-// What the first word of some bytes is.
+// The first word of some bytes.
 #[derive(Clone, Copy)]
 enum Front<'a> {
     // A number, and no other word follows.
     Last(u64),
-    // A number, and what stands behind the space after it.
+    // A number, and the bytes after the space that follows it.
     More(u64, &'a [u8]),
-    // No number.
+    // A word that is no number.
     Other,
 }
 
-// Reads the first word as a number, of which four digits are taken at a time.
+// Reads the first word as a number. It takes four digits at a time.
 #[inline(always)]
 fn read_front(bytes: &[u8]) -> Front<'_>
     ensures { IsFront bytes.now result }
@@ -45,7 +45,7 @@ fn read_front(bytes: &[u8]) -> Front<'_>
     read_on(bytes, number, end)
 }
 
-// Reads on, digit by digit, where so many bytes at the front are the digits of this number.
+// Reads the rest of a number, digit by digit. The first `end` bytes are the digits of `number`.
 #[inline(always)]
 fn read_on(bytes: &[u8], number: u64, end: usize) -> Front<'_>
     requires digits { AreDigits bytes.now number end }
@@ -75,8 +75,8 @@ fn read_on(bytes: &[u8], number: u64, end: usize) -> Front<'_>
     Front::Other
 }
 
-// The number that four bytes write as digits. It is too large for four digits where one of them is none: so one test
-// does.
+// Returns the number that four bytes write as digits. If one byte is no digit, the result is too large for four digits,
+// so that one test is enough.
 #[inline(always)]
 fn four_or_more(bytes: &[u8], first: usize) -> u64
     requires { first + 4 ≤ length bytes.now }
@@ -90,7 +90,8 @@ fn four_or_more(bytes: &[u8], first: usize) -> u64
     16 * (16 * (16 * a + b) + c) + d
 }
 
-/// Fills in the registers that words name, or says that they name none. `x` holds zeros before.
+/// Reads the words of a `call` line into the registers `x`, which are all 0 before. Returns true if the words are 1 to
+/// 8 hexadecimal numbers. Otherwise it returns false, and `x` may hold anything.
 #[inline(always)]
 pub fn registers(words: &[u8], x: &mut [u64; 8]) -> bool
     requires { x.old ≡ replicate 8 0 }
@@ -113,7 +114,7 @@ pub fn registers(words: &[u8], x: &mut [u64; 8]) -> bool
     false
 }
 
-/// The address and the size of a load.
+/// Reads the words of a `load` line: the address, and the size. Returns `None` if the words are no load.
 #[inline(always)]
 pub fn load(words: &[u8]) -> Option<(u64, Size)>
     ensures { option_map (λ r. operate (Load r.0 r.1)) result ≡ load_of (words_of words.now) }
@@ -124,7 +125,8 @@ pub fn load(words: &[u8]) -> Option<(u64, Size)>
     }
 }
 
-/// The address, the size and the value of a store.
+/// Reads the words of a `store` line: the address, the size and the value. The value has two digits
+/// for each byte. Returns `None` if the words are no store.
 #[inline(always)]
 pub fn store(words: &[u8]) -> Option<(u64, Size, u64)>
     ensures { option_map (λ r. operate (Store r.0 r.1 r.2)) result ≡ store_of (words_of words.now) }
@@ -138,7 +140,7 @@ pub fn store(words: &[u8]) -> Option<(u64, Size, u64)>
     }
 }
 
-// The value that all bytes write, and its size by its digits.
+// Returns the size and the value that all bytes write. The number of digits gives the size.
 #[inline(always)]
 fn size_and_value(word: &[u8]) -> Option<(Size, u64)>
     ensures { IsStored word.now result }
@@ -150,7 +152,7 @@ fn size_and_value(word: &[u8]) -> Option<(Size, u64)>
     }
 }
 
-/// The address of a fetch.
+/// Reads the words of a `fetch` line: the address. Returns `None` if the words are no fetch.
 pub fn fetch(words: &[u8]) -> Option<u64>
     ensures { option_map (λ addr. operate (Fetch addr)) result ≡ fetch_of (words_of words.now) }
 {
@@ -160,7 +162,8 @@ pub fn fetch(words: &[u8]) -> Option<u64>
     }
 }
 
-/// The number of a processor.
+/// Reads the words of an `on` line: the number of a processor, which can be too large for the machine. Returns `None`
+/// if the words are no number.
 pub fn processor(words: &[u8]) -> Option<u64>
     ensures { (count : ℕ) → option_and_then (λ p. if nat_lt p count then Some (turn p) else None) result ≡ turn_of count (words_of words.now) }
 {
@@ -170,7 +173,7 @@ pub fn processor(words: &[u8]) -> Option<u64>
     }
 }
 
-// How many bytes to load.
+// Returns the number of bytes that a load reads.
 #[inline(always)]
 #[tactic(auto, unfolding(crate::specs::TraceLines::size_named))]
 fn size_named(word: &[u8]) -> Option<Size>
@@ -185,7 +188,7 @@ fn size_named(word: &[u8]) -> Option<Size>
     }
 }
 
-// How many bytes to store, by the digits of the value.
+// Returns the number of bytes that a store writes, by the digits of the value.
 #[inline(always)]
 #[tactic(auto, unfolding(crate::specs::TraceLines::size_written))]
 fn size_written(word: &[u8]) -> Option<Size>
@@ -200,8 +203,8 @@ fn size_written(word: &[u8]) -> Option<Size>
     }
 }
 
-// The value of a byte as a hexadecimal digit, or `NO_DIGIT`. It's a look-up, since digits and letters follow one
-// another without rule.
+// Returns the value of a byte as a hexadecimal digit, or `NO_DIGIT`. It uses a table, since digits and letters follow
+// one another without rule.
 #[inline(always)]
 fn value_or_more(byte: u8) -> u64
     ensures value { result ≡ value_of byte }
@@ -211,7 +214,7 @@ fn value_or_more(byte: u8) -> u64
     value
 }
 
-// What stands in the table for a byte that is no digit: more than any four digits write.
+// The value of a byte that is no digit. It is more than any four digits write.
 const NO_DIGIT: u64 = 1 << 32;
 
 // The value of each byte as a digit.

@@ -1,5 +1,5 @@
 // SPDX-License-Identifier: MIT OR Apache-2.0
-//! The lines of a trace, each by itself.
+//! Reads the lines of a trace, each by itself.
 ghost use Rattle.std.specs.Prelude.{◌≡◌, ◌++◌, None, codes, option_map};
 ghost use Rattle.play_syntax.specs.TraceLines.{act_of, line_in, line_of, turn_of, words_of};
 ghost use Rattle.play_syntax.specs.Lines.{meant};
@@ -13,21 +13,24 @@ use ffa_model::Op;
 pub enum Line {
     /// An operation of the endpoint that runs.
     Operation(Op),
-    /// The table of accesses is asked for.
+    /// A request for the table of accesses.
     Show,
-    /// The certificate is asked for.
+    /// A request for the certificate.
     Audit,
     /// An empty line, or a comment.
     Nothing,
-    /// What follows is of another processor, by its number from 0 on.
+    /// The turn of a processor, by its number from 0 on. The lines after it are operations of this processor.
     Turn(usize),
-    /// The processor on turn takes an interrupt.
+    /// An interrupt that the processor on turn takes.
     Interrupt,
 }
 
 impl Line {
-    /// The line that these bytes are in a trace of so many processors, which is what `read` reads or names one of them or an
-    /// interrupt; where there is no number, one processor alone runs the machine, and it is what `read` reads.
+    /// Reads a line, without its LF, in a trace of this number of processors. It accepts every line that `read`
+    /// accepts, and also `on` with the number of a processor, and `interrupt`.
+    ///
+    /// If the number is `None`, only one processor runs the machine, and it accepts only what `read` accepts. Returns
+    /// `None` if the bytes are no such line.
     pub fn read_in(processors: Option<usize>, bytes: &[u8]) -> Option<Line>
         ensures { option_map meant result ≡ line_in processors bytes.now }
     {
@@ -37,10 +40,10 @@ impl Line {
         }
     }
 
-    /// The line that these bytes are, where they are one. The LF that ends a line is none of them.
+    /// Reads a line of a trace, without its LF. Returns `None` if the bytes are no line of a trace.
     ///
-    /// A play tells commands apart a second time, in `do_line` of `play_player`, which does a line where it is read:
-    /// that saves 87 instructions a line.
+    /// `do_line` of `play_player` distinguishes the commands a second time, because it does a line where it reads the
+    /// line. This saves 87 instructions a line.
     pub fn read(bytes: &[u8]) -> Option<Line>
         ensures { option_map meant result ≡ line_of bytes.now }
     {
@@ -83,7 +86,7 @@ fn read_store(words: &[u8]) -> Option<Line>
     }
 }
 
-// A line of a command of which a trace has few.
+// Reads a line of a command that traces seldom have.
 fn read_other(bytes: &[u8]) -> Option<Line>
     requires { IsOther bytes.now }
     ensures { option_map meant result ≡ line_of bytes.now }
@@ -108,7 +111,7 @@ fn read_fetch(words: &[u8]) -> Option<Line>
     }
 }
 
-// A line of a trace of so many processors, that one of one processor doesn't have.
+// Reads a line that only a trace of several processors has. `count` is the number of processors.
 fn read_act(count: usize, bytes: &[u8]) -> Option<Line>
     ensures { option_map meant result ≡ act_of count (words_of bytes.now) }
 {

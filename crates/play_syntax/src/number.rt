@@ -1,9 +1,9 @@
 // SPDX-License-Identifier: MIT OR Apache-2.0
-//! Numbers in words that may have a mark in front, as no line of the plain format has it.
+//! Reads numbers that may have `0x` or `0X` before them. No line of the plain format has these.
 ghost use Rattle.std.specs.Prelude.{◌≡◌, ◌<◌, ◌≤◌, ◌^◌, fold, length, IfSome, Some};
 ghost use Rattle.play_syntax.specs.TraceLines.{bare, digit_value, number_in, with_digit};
 
-/// A word without the mark `0x` or `0X` of a hexadecimal number in front.
+/// Returns a word without the `0x` or `0X` of a hexadecimal number at its beginning.
 pub fn bare(word: &[u8]) -> &[u8]
     ensures { result.now ≡ bare word.now }
 {
@@ -16,7 +16,8 @@ pub fn bare(word: &[u8]) -> &[u8]
     }
 }
 
-/// The number that so many hexadecimal digits at most write, with a mark before them or without.
+/// Returns the number that 1 to `most` hexadecimal digits write, with or without `0x` or `0X` before them. Returns
+/// `None` for any other word.
 #[tactic(auto, unfolding(crate::specs::TraceLines::number_in))]
 pub fn number_in(most: usize, word: &[u8]) -> Option<u128>
     requires { most ≤ 32 }

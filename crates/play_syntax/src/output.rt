@@ -1,28 +1,29 @@
 // SPDX-License-Identifier: MIT OR Apache-2.0
-//! Writing text, and why a play stops.
+//! Writes text, and names the reasons why a play stops.
 ghost use Rattle.play_syntax.specs.Output.{Writes};
 
 use std::io::Write;
 use thiserror::Error;
 
-/// Why a play stopped.
+/// The reason why a play stopped.
 #[derive(Clone, Copy, Debug, PartialEq, Eq, Error)]
 pub enum PlayError {
     /// The reader failed, or its input is longer than a play can count.
     #[error("cannot read")]
     Read,
-    /// The writer failed, or took nothing.
+    /// The writer failed, or took no byte.
     #[error("cannot write")]
     Write,
-    /// There is no memory for a line, or for what it prints.
+    /// There is no memory for a line, or for the text that it prints.
     #[error("no memory")]
     NoMemory,
-    /// The line of this number, counted from 1, is none of a trace.
+    /// The line of this number is no line of a trace. The first line has the number 1.
     #[error("line {0}: bad line")]
     BadLine(u64),
 }
 
-/// Writes all of a text, by as many writes as it takes. No write is tried again after an error.
+/// Writes all of a text, by the number of writes that it needs. It never repeats a write after an error. If the writer
+/// fails or takes no byte, it fails with `Write`. The writer has then taken a beginning of the text, but not all of it.
 // Inlined, so that a text of a constant size is copied without a call.
 #[inline(always)]
 pub fn write_text<W: Write>(writer: &mut W, text: &[u8]) -> Result<(), PlayError>
@@ -38,7 +39,7 @@ pub fn write_text<W: Write>(writer: &mut W, text: &[u8]) -> Result<(), PlayError
     }
 }
 
-// Writes what the first write left.
+// Writes the bytes that the first write left.
 #[inline(never)]
 fn write_rest<W: Write>(writer: &mut W, text: &[u8]) -> Result<(), PlayError>
     ensures { Writes (W.contents writer.old) (W.contents writer.new) text.now result }

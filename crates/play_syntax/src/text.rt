@@ -7,14 +7,14 @@ ghost use Rattle.play_syntax.specs.TraceText.{digit, hex, spaced, ended, fault_n
 use arrayvec::ArrayVec;
 use ffa_model::{Data, FaultKind, MOST_ENDPOINTS, Rights};
 
-/// Room for the longest text that is written at once, which is where the tables of all endpoints stand: 32 bytes for
-/// each, and for one more.
+/// The room in bytes for the longest text that is written at once. This text has the tables of all endpoints: 32 bytes
+/// for each endpoint, and for one more.
 pub const CAPACITY: usize = 32 * (MOST_ENDPOINTS + 1);
 
 /// A text that is being made.
 pub type Text = ArrayVec<u8, CAPACITY>;
 
-/// Appends a word as it stands.
+/// Appends a word as it is. The text must have room for it.
 pub fn push_word<const N: usize>(text: &mut ArrayVec<u8, N>, word: &[u8])
     requires { array_vec_len text.old + length word.now ≤ N }
     ensures items { text.new.items ≡ text.old.items ++ word.now }
@@ -23,7 +23,8 @@ pub fn push_word<const N: usize>(text: &mut ArrayVec<u8, N>, word: &[u8])
     let _room = text.try_extend_from_slice(word);
 }
 
-/// Appends a space and the lowest `digits` hexadecimal digits of a number.
+/// Appends a space and the lowest `digits` hexadecimal digits of a number, at most 16. The text must have room for
+/// them.
 pub fn push_hex<const N: usize>(text: &mut ArrayVec<u8, N>, digits: u32, value: u64)
     requires digits { digits ≤ 16 }
     requires room { array_vec_len text.old + digits < N }
@@ -34,7 +35,7 @@ pub fn push_hex<const N: usize>(text: &mut ArrayVec<u8, N>, digits: u32, value: 
     push_digits(text, digits, value);
 }
 
-/// Appends the lowest `digits` hexadecimal digits of a number.
+/// Appends the lowest `digits` hexadecimal digits of a number, at most 16. The text must have room for them.
 pub fn push_digits<const N: usize>(text: &mut ArrayVec<u8, N>, digits: u32, value: u64)
     requires digits { digits ≤ 16 }
     requires room { array_vec_len text.old + digits ≤ N }
@@ -45,7 +46,7 @@ pub fn push_digits<const N: usize>(text: &mut ArrayVec<u8, N>, digits: u32, valu
     push_word(text, &all[16 - digits as usize..]);
 }
 
-// The sixteen digits of a number.
+// Returns the sixteen digits of a number.
 #[inline]
 fn all_digits(value: u64) -> [u8; 16]
     ensures { result ≡ hex 16 value }
@@ -63,7 +64,7 @@ fn all_digits(value: u64) -> [u8; 16]
     ]
 }
 
-// The digits of a number's byte at this place, counted from the lowest.
+// Returns the two digits of the number's byte at this place. Place 0 is the lowest byte.
 #[inline]
 fn two_digits(value: u64, place: u32) -> (u8, u8)
     requires { place < 8 }
@@ -97,7 +98,8 @@ D0D1D2D3D4D5D6D7D8D9DADBDCDDDEDF\
 E0E1E2E3E4E5E6E7E8E9EAEBECEDEEEF\
 F0F1F2F3F4F5F6F7F8F9FAFBFCFDFEFF";
 
-/// Appends a space and the letters of a right.
+/// Appends a space and the three letters of a right, such as `rw-`, or `---` for no right. The text must have room for
+/// them.
 pub fn push_right(text: &mut Text, right: Option<Rights>)
     requires { array_vec_len text.old + 4 ≤ CAPACITY }
     ensures items { text.new.items ≡ text.old.items ++ spaced (rights_text right) }
@@ -121,10 +123,10 @@ fn right_letters(right: Option<Rights>) -> &'static [u8]
     }
 }
 
-/// How long the line of registers is.
+/// The size in bytes of the line of registers, with its LF.
 pub const REGISTERS: usize = 146;
 
-/// Puts the line of the runner and its registers where it has room.
+/// Writes the line of the runner and its registers, with its LF, over a buffer of exactly this size.
 #[inline(always)]
 pub fn put_registers(line: &mut [u8; REGISTERS], runner: u16, x: &[u64; 8])
     ensures { line.new ≡ ended (codes "regs" ++ spaced (hex 4 runner) ++ flat_map (λ v. spaced (hex 16 v)) x.now) }
@@ -137,7 +139,7 @@ pub fn put_registers(line: &mut [u8; REGISTERS], runner: u16, x: &[u64; 8])
     }
 }
 
-// Puts a space and sixteen digits at a place. Most registers of most calls are zero or have a zero upper half.
+// Writes a space and sixteen digits at an offset. Most registers of most calls are zero or have a zero upper half.
 #[inline(always)]
 fn put_register(line: &mut [u8; REGISTERS], place: usize, value: u64)
     requires { place + 17 ≤ 146 }
@@ -152,7 +154,7 @@ fn put_register(line: &mut [u8; REGISTERS], place: usize, value: u64)
     }
 }
 
-// Puts a word at a place, alike.
+// Writes a word of a space and sixteen digits at an offset.
 #[inline(always)]
 fn put_word(line: &mut [u8; REGISTERS], place: usize, word: &[u8; 17])
     requires { place + 17 ≤ 146 }
@@ -177,7 +179,7 @@ fn zero_word() -> [u8; 17]
     *b" 0000000000000000"
 }
 
-// The word of a register whose upper half is zero.
+// Returns the word of a register whose upper half is zero.
 #[inline(always)]
 fn half_word(value: u64) -> [u8; 17]
     requires { value < 2 ^ 32 }
@@ -210,7 +212,7 @@ fn register_word(value: u64) -> [u8; 17]
     ]
 }
 
-/// The line of a preempted partition that goes on.
+/// Returns the line of a preempted partition that resumes, with its LF.
 pub fn resumed_line(partition: u16) -> [u8; 13]
     ensures { result ≡ resumed_text partition }
 {
@@ -221,7 +223,8 @@ pub fn resumed_line(partition: u16) -> [u8; 13]
     ]
 }
 
-/// The line of one byte of data. Lines of data have constant sizes, so that no room for a text is made for them.
+/// Returns the line of one byte of data, with its LF. Lines of data have constant sizes, so they need no room for a
+/// text.
 #[inline(always)]
 pub fn byte_line(value: u64) -> [u8; 8]
     ensures { result ≡ ended (codes "data" ++ spaced (hex 2 value)) }
@@ -230,7 +233,7 @@ pub fn byte_line(value: u64) -> [u8; 8]
     [b'd', b'a', b't', b'a', b' ', a.0, a.1, b'\n']
 }
 
-/// The line of two bytes.
+/// Returns the line of two bytes of data, with its LF.
 #[inline(always)]
 pub fn two_byte_line(value: u64) -> [u8; 10]
     ensures { result ≡ ended (codes "data" ++ spaced (hex 4 value)) }
@@ -240,7 +243,7 @@ pub fn two_byte_line(value: u64) -> [u8; 10]
     [b'd', b'a', b't', b'a', b' ', b.0, b.1, a.0, a.1, b'\n']
 }
 
-/// The line of four bytes.
+/// Returns the line of four bytes of data, with its LF.
 #[inline(always)]
 pub fn four_byte_line(value: u64) -> [u8; 14]
     ensures { result ≡ ended (codes "data" ++ spaced (hex 8 value)) }
@@ -254,7 +257,7 @@ pub fn four_byte_line(value: u64) -> [u8; 14]
     ]
 }
 
-/// The line of eight bytes.
+/// Returns the line of eight bytes of data, with its LF.
 #[inline(always)]
 pub fn eight_byte_line(value: u64) -> [u8; 22]
     ensures { result ≡ ended (codes "data" ++ spaced (hex 16 value)) }
@@ -273,7 +276,7 @@ pub fn eight_byte_line(value: u64) -> [u8; 22]
     ]
 }
 
-/// The line of a fault.
+/// Returns the line of a fault, with its LF.
 pub fn fault_line(fault: FaultKind) -> &'static [u8]
     ensures { result.now ≡ ended (codes "fault" ++ spaced (fault_name fault)) }
 {

@@ -16,7 +16,9 @@ use Rattle.play_forms.specs.Followed as followed
 use Rattle.play_forms.specs.Forms.{plain, text_in}
 use Rattle.play_forms.specs.Guards.{GuardedIn, guards_among, near_from}
 use Rattle.play_forms.specs.Past.{SiftedIn, UnmetAmong}
-use Rattle.play_forms.specs.Recorded.{RecordedIn}
+use Rattle.play_forms.specs.Recorded.{RecordsLines}
+use Rattle.play_forms.specs.Listening.{Heard, PlaysTo}
+use Rattle.play_forms.specs.Printed.{PrintsLines}
 use Rattle.play_report.specs.Guarded.{met_text, near_text}
 use Rattle.play_forms.specs.declared.guards.Breach.{Breach}
 use Rattle.play_forms.specs.Reading.{IsAll}
@@ -24,20 +26,12 @@ use Rattle.play_forms.specs.Sessions.{Conversed, EndsSession, SessionIn}
 use Rattle.play_forms.specs.declared.comparison.CompareError.TheVariants as compare_error
 use Rattle.play_forms.proofs.Plain.{plain_text}
 use Rattle.play_forms.proofs.Sifts.{all_met}
-use Rattle.play_picture.specs.Paging.{Paging}
-use Rattle.play_page.specs.declared.page.Page.{Page}
-use Rattle.play_picture.specs.Pictured.{Pictured}
-use Rattle.play_drawing.specs.declared.picture.Picture.{Picture}
-use Rattle.play_drawing.specs.declared.row.Keep.{Keep}
-use Rattle.play_drawing.specs.declared.size.TooLarge.{TooLarge}
-use Rattle.play_picture.specs.Watching.{IsTooLarge}
-use Rattle.play_picture.proofs.Bare.{bare_large}
 use Rattle.play_report.specs.Failures.{IsDifference, failure_of}
 use Rattle.play_report.specs.declared.failure.Failure.{Failure}
 use Rattle.play_report.specs.declared.failure.Failure.TheVariants.{BadLine, Read, Write, NoMemory, Differs, Unmet}
-use Rattle.play_tasks.specs.Plays.{EndsBadly, EndsGuards, IsDrawn, IsHeld, IsPlayed, IsRecorded, IsStopped, IsCutShort, IsUnmet, IsUnmetInAll, IsOverfull, PlayFails, Plays, PrintsExpected, Streams, TellsGuards}
+use Rattle.play_tasks.specs.Plays.{EndsBadly, EndsGuards, IsHeld, IsPlayed, IsRecorded, IsStopped, IsCutShort, IsUnmet, IsUnmetInAll, PlayFails, Plays, PlaysTrace, PrintsExpected, Streams, TellsGuards}
 use Rattle.play_tasks.specs.declared.task.Expected.{Expected}
-use Rattle.play_tasks.specs.declared.task.Task.TheVariants.{Plain, Formed, Guarded, GuardedToEnd, Recorded, Session, Compare, Drawn, Paged}
+use Rattle.play_tasks.specs.declared.task.Task.TheVariants.{Plain, Formed, Guarded, GuardedToEnd, Recorded, Session, Compare}
 
 -- BYTES THAT A READER HAD, AND THAT A WRITER HOLDS
 
@@ -141,54 +135,61 @@ ends_badly form start now had said bytes n e = record {
   bad = e.bad;
 }
 
-pub formed_whole : {X : Type 0} (x : X) (form : Form) (start now : Bench) (held holds had has : Option (List ℕ)) (bytes : List ℕ) → followed.PlayedIn form start now held holds had has bytes (Ok x) → IsPlayed false form start (passed had held holds)
-formed_whole x form start now held holds had has bytes (left, lines, said, f, ended, written) = record {
-  lines = lines;
-  each = f.each;
-  all = all_consumed had left (joined lines) f.read ended;
-  written = subst (Appends held holds) f.said written;
-  guards = never_strict;
-}
+-- PLAYS THAT A LISTENER HEARS
 
-pub formed_failed : (form : Form) (start now : Bench) (held holds had has : Option (List ℕ)) (bytes : List ℕ) (path : Bor (List ℕ)) (fault : Option LineFlaw) (error : PlayError)
-    → followed.PlayedIn {X = Unit {0}} form start now held holds had has bytes (Err error)
-    → PlayFails (Formed form) path start (passed had held holds) (failure_of (Read path) fault error)
-formed_failed form start now held holds had has bytes path fault play_error.Read (left, lines, said, f, unended, written) =
-    inl ((lines, (f.each, (left, f.read)), subst (Appends held holds) f.said written, never_strict), refl)
-formed_failed form start now held holds had has bytes path fault (play_error.BadLine n) (said, e, written) =
-    (e.lines, ends_badly form start now had said bytes n e, subst (Appends held holds) e.followed.said written, never_strict)
-formed_failed form start now held holds had has bytes path fault _ p = tt
+module _ {L Stop : Type 0} (heard : Heard L Stop) (start now : Bench) (had has : Option (List ℕ)) (line : List ℕ) (old new : L) (held holds : Option (List ℕ)) (path : Bor (List ℕ)) where
+  pub traced : (stop : Option Stop) → PlaysTo heard start now had has line old new held holds (Ok stop) → PlaysTrace heard path start (passed had held holds) line old new (Ok stop)
+  traced None (left, lines, done, ended, all) = (lines, done.each, all_consumed had left (joined lines) done.read ended, all)
+  traced (Some stop) (lines, done, stopped) = (lines, unwrap_or has [], done.each, all_read had has (joined (lines ++ line ∷ [])) done.read, stopped)
 
--- PICTURES
+  pub untraced : (fault : Option LineFlaw) (error : PlayError) → PlaysTo heard start now had has line old new held holds (Err error)
+      → PlaysTrace heard path start (passed had held holds) line old new (Err (failure_of (Read path) fault error))
+  untraced fault play_error.Read (left, lines, done, unended, all) = (lines, (done.each, (left, done.read)), all, refl)
+  untraced fault (play_error.BadLine n) (left, lines, done, number, bad, all) =
+      (lines, record { left = left; bytes = line; each = done.each; read = done.read; number = number; bad = bad }, all)
+  untraced fault _ p = tt
+
+-- of a play that prints
+module _ {L Stop : Type 0} (heard : Heard L Stop) (form : Form) (start : Bench) (streams : Streams) (line : List ℕ) (old new : L) (path : Bor (List ℕ)) where
+  pub printed_whole : (stop : Option Stop) → PlaysTrace heard path start streams line old new (Ok stop)
+      → ((lines : List (List ℕ)) (result : Result (Option Stop) PlayError) → heard start lines old new streams.held streams.holds result → PrintsLines form start lines streams.held streams.holds result)
+      → IsPlayed false form start streams
+  printed_whole None (lines, each, all, written) prints = record { lines = lines; each = each; all = all; written = (prints lines (Ok None) written).0; guards = never_strict }
+  printed_whole (Some stop) (lines, rest, each, all, stopped) prints = absurd (prints (lines ++ line ∷ []) (Ok (Some stop)) stopped).0
+
+  pub printed_failed : (failure : Failure) → PlaysTrace heard path start streams line old new (Err failure)
+      → ((lines : List (List ℕ)) (result : Result (Option Stop) PlayError) → heard start lines old new streams.held streams.holds result → PrintsLines form start lines streams.held streams.holds result)
+      → PlayFails (Formed form) path start streams failure
+  printed_failed (BadLine n fault) (lines, ends, written) prints = (lines, ends, (prints lines (Ok None) written).0, never_strict)
+  printed_failed (Read unread) (lines, began, written, is) prints = inl ((lines, began, (prints lines (Ok None) written).0, never_strict), is)
+  printed_failed Write p prints = tt
+  printed_failed NoMemory p prints = tt
+  printed_failed _ p prints = absurd p
+
+-- of a record
+module _ {L Stop : Type 0} (heard : Heard L Stop) (start : Bench) (streams : Streams) (line : List ℕ) (old new : L) (path : Bor (List ℕ)) where
+  pub recorded_whole : (stop : Option Stop) → PlaysTrace heard path start streams line old new (Ok stop)
+      → ((lines : List (List ℕ)) (result : Result (Option Stop) PlayError) → heard start lines old new streams.held streams.holds result → RecordsLines start lines streams.held streams.holds result)
+      → IsRecorded start streams
+  recorded_whole None (lines, each, all, written) records =
+      let own = records lines (Ok None) written in
+      record { lines = lines; each = each; all = all; written = own.0; replays = own.1 }
+  recorded_whole (Some stop) (lines, rest, each, all, stopped) records = absurd (records (lines ++ line ∷ []) (Ok (Some stop)) stopped).0
+
+  pub recorded_failed : (failure : Failure) → PlaysTrace heard path start streams line old new (Err failure)
+      → ((lines : List (List ℕ)) (result : Result (Option Stop) PlayError) → heard start lines old new streams.held streams.holds result → RecordsLines start lines streams.held streams.holds result)
+      → PlayFails Recorded path start streams failure
+  recorded_failed (BadLine n fault) (lines, ends, written) records = (lines, ends, (records lines (Ok None) written).0)
+  recorded_failed (Read unread) (lines, began, written, is) records = inl ((lines, began, (records lines (Ok None) written).0), is)
+  recorded_failed Write p records = tt
+  recorded_failed NoMemory p records = tt
+  recorded_failed _ p records = absurd p
+
+-- RESULTS
 
 pub always_ok : {T E P : Type 0} (r : Result T E) → P → OnOk r P
 always_ok (Ok x) p = p
 always_ok (Err e) p = tt
-
-pub drawn_whole : {A : Type 0} (picture : Picture A) (keep : Keep) (start now : Bench) (had has : Option (List ℕ)) (bytes : List ℕ) → Pictured keep start now had has bytes (Ok (Ok picture)) → IsDrawn (processors_of start) had
-drawn_whole picture keep start now had has bytes (left, lines, said, f, (ended, is, fits)) = record { lines = lines; each = f.each; all = all_consumed had left (joined lines) f.read ended }
-
-pub drawn_over : (A : Type 0) (large : TooLarge) (keep : Keep) (start now : Bench) (held had has : Option (List ℕ)) (bytes : List ℕ) → Pictured {A = A} keep start now had has bytes (Ok (Err large))
-    → IsOverfull keep start (passed had held held) large.most
-drawn_over A large keep start now held had has bytes (left, lines, said, f, is) =
-    (lines, (f.each, (left, f.read)), subst (λ (b : Bench). IsTooLarge (Unit {0}) keep start b.state lines (record { most = large.most })) f.state (bare_large keep start now.state lines large is), Keeps-refl held)
-
-pub drawn_failed : (A : Type 0) (keep : Keep) (width : ℕ) (start now : Bench) (held had has : Option (List ℕ)) (bytes : List ℕ) (path : Bor (List ℕ)) (fault : Option LineFlaw) (error : PlayError)
-    → Pictured {A = A} keep start now had has bytes (Err error) → PlayFails (Drawn keep width) path start (passed had held held) (failure_of (Read path) fault error)
-drawn_failed A keep width start now held had has bytes path fault play_error.Read p = inl (Keeps-refl held, refl)
-drawn_failed A keep width start now held had has bytes path fault play_error.Write p = absurd p
-drawn_failed A keep width start now held had has bytes path fault play_error.NoMemory p = tt
-drawn_failed A keep width start now held had has bytes path fault (play_error.BadLine n) (said, e) = (e.lines, ends_badly plain start now had said bytes n e, Keeps-refl held)
-
-pub paged_whole : {A : Type 0} (page : Page A) (start now : Bench) (had has : Option (List ℕ)) (bytes : List ℕ) → Paging start now had has bytes (Ok page) → IsDrawn (processors_of start) had
-paged_whole page start now had has bytes (left, lines, said, f, is) = record { lines = lines; each = f.each; all = all_consumed had left (joined lines) f.read is.whole }
-
-pub paged_failed : (A : Type 0) (start now : Bench) (held had has : Option (List ℕ)) (bytes : List ℕ) (path : Bor (List ℕ)) (fault : Option LineFlaw) (error : PlayError)
-    → Paging {A = A} start now had has bytes (Err error) → PlayFails Paged path start (passed had held held) (failure_of (Read path) fault error)
-paged_failed A start now held had has bytes path fault play_error.Read p = inl (Keeps-refl held, refl)
-paged_failed A start now held had has bytes path fault play_error.Write p = absurd p
-paged_failed A start now held had has bytes path fault play_error.NoMemory p = tt
-paged_failed A start now held had has bytes path fault (play_error.BadLine n) (said, e) = (e.lines, ends_badly plain start now had said bytes n e, Keeps-refl held)
 
 -- what is said of the guards
 pub guarded_told : (form : Form) (start now : Bench) (held holds had has : Option (List ℕ)) (line found : List ℕ) (met : ℕ) (near before between after : List ℕ) → GuardedIn form start now held holds had has line found met near (Ok None)
@@ -262,26 +263,6 @@ sifted_ended x form start now held holds had has line met near unmet sifted path
 sifted_ended x form start now held holds had has line met near unmet sifted path (Err NoMemory) is = record { played = tt; failed = tt }
 sifted_ended x form start now held holds had has line met near unmet sifted path (Err Write) is = record { played = tt; failed = tt }
 sifted_ended x form start now held holds had has line met near unmet sifted path _ is = absurd cc
-
--- RECORDS
-
-pub recorded_whole : {X : Type 0} (x : X) (start now : Bench) (held holds had has : Option (List ℕ)) (bytes : List ℕ) → RecordedIn start now held holds had has bytes (Ok x) → IsRecorded start (passed had held holds)
-recorded_whole x start now held holds had has bytes (left, lines, said, f, ended, written, replays) = record {
-  lines = lines;
-  each = f.each;
-  all = all_consumed had left (joined lines) f.read ended;
-  written = written;
-  replays = replays;
-}
-
-pub recorded_failed : (start now : Bench) (held holds had has : Option (List ℕ)) (bytes : List ℕ) (path : Bor (List ℕ)) (fault : Option LineFlaw) (error : PlayError)
-    → RecordedIn {X = Unit {0}} start now held holds had has bytes (Err error)
-    → PlayFails Recorded path start (passed had held holds) (failure_of (Read path) fault error)
-recorded_failed start now held holds had has bytes path fault play_error.Read (left, lines, said, f, unended, written, replays) =
-    inl ((lines, (f.each, (left, f.read)), written), refl)
-recorded_failed start now held holds had has bytes path fault (play_error.BadLine n) (said, e, written, replays) =
-    (e.lines, ends_badly plain start now had said bytes n e, written)
-recorded_failed start now held holds had has bytes path fault _ p = tt
 
 -- COMPARISONS
 

@@ -1,28 +1,22 @@
 -- SPDX-License-Identifier: MIT OR Apache-2.0
 -- What a task leaves that was done with a trace.
 use denote.Ref.{Bor}
-use Rattle.std.specs.Prelude.{◌≡◌, ◌==◌, ◌⊎◌, ℕ, ◌+◌, Bool, true, false, List, [], ◌∷◌, ◌++◌, length, Option, Some, Result, Ok, Err, IfErr, OnOk, ⊤, if◌then◌else◌}
+use Rattle.std.specs.Prelude.{◌≡◌, ◌⊎◌, ℕ, ◌+◌, Bool, true, false, List, [], ◌∷◌, ◌++◌, length, Option, None, Some, Result, Ok, Err, IfErr, OnOk, ⊤}
 use Rattle.std.specs.Io.KnownBytes.{Appends, Consumes, Keeps}
 use Rattle.std.specs.List.{list_all}
 use Rattle.ffa_playable.specs.Bench.{Bench, processors_of}
 use Rattle.play_syntax.specs.TraceLines.{feed, has_no_feed, are_lines, joined}
-use Rattle.play_syntax.specs.TraceText.{after_all}
-use Rattle.play_arguments.specs.declared.command_line.PictureOptions.{PictureOptions}
 use Rattle.play_arguments.specs.declared.command_line.TextOptions.{TextOptions}
 use Rattle.play_forms.specs.declared.form.Form.{Form}
 use Rattle.play_forms.specs.declared.guards.Asks.{Asks}
 use Rattle.play_forms.specs.Compared.{NeverPrints, StopsInLast, unexplained}
 use Rattle.play_forms.specs.Forms.{plain, text_in}
 use Rattle.play_forms.specs.Guards.{AreMet, IsMet, guard_of, guards_among, near_from}
+use Rattle.play_forms.specs.Listening.{Heard}
 use Rattle.play_forms.specs.Past.{UnmetAmong}
 use Rattle.play_forms.specs.Reading.{IsAll, IsBadLine}
 use Rattle.play_forms.specs.Recorded.{Replays, recorded}
 use Rattle.play_forms.specs.Sessions.{EndsSession, good_text_in, is_heard}
-use Rattle.play_drawing.specs.declared.row.Keep.{Keep}
-use Rattle.play_drawing.specs.declared.row.Pace.TheVariants.{Changes, Every}
-use Rattle.play_drawing.specs.Written.{WritesPicture}
-use Rattle.play_page.specs.Written.{WritesPage}
-use Rattle.play_picture.specs.Watching.{IsTooLarge}
 use Rattle.play_report.specs.Guarded.{met_text, near_text}
 use Rattle.play_report.specs.declared.failure.Failure.{Failure}
 use Rattle.play_report.specs.declared.failure.Failure.TheVariants as failure
@@ -36,13 +30,6 @@ form_of options = record {
   names = options.names;
   explain = options.explain;
   short = options.short;
-}
-
--- the lines that are asked for of a picture: those that change the certificate, or each of so many, and refused calls
-abbrev pub keep_of : PictureOptions → Keep
-keep_of options = record {
-  pace = if options.every == 0 then Changes else Every options.every;
-  refused = options.refused;
 }
 
 -- STREAMS
@@ -60,15 +47,6 @@ streams_of remaining reader contents before after =
 
 -- PLAYS, from this start, with these streams
 
--- a trace was played to its end: what its reader had are lines, and their text was written in this form; where the play
--- is strict, their guards are met
-pub record IsPlayed (strict : Bool) (form : Form) (start : Bench) (streams : Streams) : Type 0 where
-  pub lines : List (List ℕ)
-  pub each : are_lines (processors_of start) lines ≡ true
-  pub all : IsAll streams.trace (joined lines)
-  pub written : Appends streams.held streams.holds (text_in form 1 start lines)
-  pub guards : strict ≡ true → AreMet start lines
-
 -- the line behind these lines of a trace of so many processors is bad, and this is its number
 pub record EndsBadly (processors : Option ℕ) (trace : Option (List ℕ)) (lines : List (List ℕ)) (n : ℕ) : Type 0 where
   pub left : Option (List ℕ)
@@ -78,16 +56,46 @@ pub record EndsBadly (processors : Option ℕ) (trace : Option (List ℕ)) (line
   pub number : n ≡ 1 + length lines
   pub bad : IsBadLine processors left bytes
 
+-- a trace of so many processors began with these lines
+abbrev pub BeganWith : Option ℕ → (trace : Option (List ℕ)) (lines : List (List ℕ)) → Type 0
+BeganWith processors trace lines =
+    (are_lines processors lines ≡ true) × ((left : Option (List ℕ)) × Consumes trace left (joined lines))
+
+-- A trace was played to a listener: to its end, or up to a line at which the listener stopped it, or up to a bad line, or as far
+-- as it could be read. `line` is the line that was read last.
+abbrev pub PlaysTrace : {L Stop : Type 0} → Heard L Stop → (trace : Bor (List ℕ)) → Bench → Streams → (line : List ℕ) → L → L
+    → Result (Option Stop) Failure → Type 0
+PlaysTrace heard trace start streams line old new (Ok None) =
+    (lines : List (List ℕ)) × (are_lines (processors_of start) lines ≡ true) × IsAll streams.trace (joined lines)
+    × heard start lines old new streams.held streams.holds (Ok None)
+PlaysTrace heard trace start streams line old new (Ok (Some stop)) =
+    (lines : List (List ℕ)) × (rest : List ℕ) × (are_lines (processors_of start) (lines ++ line ∷ []) ≡ true)
+    × IsAll streams.trace (joined (lines ++ line ∷ []) ++ rest)
+    × heard start (lines ++ line ∷ []) old new streams.held streams.holds (Ok (Some stop))
+PlaysTrace heard trace start streams line old new (Err (failure.BadLine n fault)) =
+    (lines : List (List ℕ)) × EndsBadly (processors_of start) streams.trace lines n
+    × heard start lines old new streams.held streams.holds (Ok None)
+PlaysTrace heard trace start streams line old new (Err (failure.Read path)) =
+    (lines : List (List ℕ)) × BeganWith (processors_of start) streams.trace lines
+    × heard start lines old new streams.held streams.holds (Ok None) × (path ≡ trace)
+PlaysTrace heard trace start streams line old new (Err failure.Write) = ⊤
+PlaysTrace heard trace start streams line old new (Err failure.NoMemory) = ⊤
+PlaysTrace heard trace start streams line old new (Err other) = ⊥
+
+-- a trace was played to its end: what its reader had are lines, and their text was written in this form; where the play
+-- is strict, their guards are met
+pub record IsPlayed (strict : Bool) (form : Form) (start : Bench) (streams : Streams) : Type 0 where
+  pub lines : List (List ℕ)
+  pub each : are_lines (processors_of start) lines ≡ true
+  pub all : IsAll streams.trace (joined lines)
+  pub written : Appends streams.held streams.holds (text_in form 1 start lines)
+  pub guards : strict ≡ true → AreMet start lines
+
 -- a play stopped at line n: the lines before it were done, and their text was written
 abbrev pub IsStopped : Bool → Form → Bench → Streams → ℕ → Type 0
 IsStopped strict form start streams n =
     (lines : List (List ℕ)) × EndsBadly (processors_of start) streams.trace lines n
     × Appends streams.held streams.holds (text_in form 1 start lines) × (strict ≡ true → AreMet start lines)
-
--- a trace of so many processors began with these lines
-abbrev pub BeganWith : Option ℕ → (trace : Option (List ℕ)) (lines : List (List ℕ)) → Type 0
-BeganWith processors trace lines =
-    (are_lines processors lines ≡ true) × ((left : Option (List ℕ)) × Consumes trace left (joined lines))
 
 -- a play could read no further: these lines were done, and their text was written
 abbrev pub IsUnread : Bool → Form → Bench → Streams → Type 0
@@ -180,26 +188,6 @@ pub record PrintsExpected (form : Form) (start : Bench) (trace expected : Option
   pub all : IsAll trace (joined lines)
   pub same : IsAll expected (text_in form 1 start lines)
 
--- a trace of so many processors was played to its end, and its picture or its page was written: what its reader had are
--- lines
-pub record IsDrawn (processors : Option ℕ) (trace : Option (List ℕ)) : Type 0 where
-  pub lines : List (List ℕ)
-  pub each : are_lines processors lines ≡ true
-  pub all : IsAll trace (joined lines)
-
--- a picture's or a page's play stopped at line n, and nothing was written
-abbrev pub IsUndrawn : Bench → Streams → ℕ → Type 0
-IsUndrawn start streams n =
-    (lines : List (List ℕ)) × EndsBadly (processors_of start) streams.trace lines n × Keeps streams.held streams.holds
-
--- a picture's play stopped behind lines that have more rows than fit, of which so many do, and nothing was written; rows
--- are the same in whatever memory they lie, and so in none
-abbrev pub IsOverfull : Keep → Bench → Streams → ℕ → Type 0
-IsOverfull keep start streams most =
-    (lines : List (List ℕ)) × BeganWith (processors_of start) streams.trace lines
-    × IsTooLarge (Unit {0}) keep start (after_all start lines).state lines (record { most = most })
-    × Keeps streams.held streams.holds
-
 -- what is expected begins with the text of these lines in this form
 abbrev pub BeginsExpected : Form → Bench → (expected : Option (List ℕ)) (lines : List (List ℕ)) → Type 0
 BeginsExpected form start expected lines =
@@ -244,9 +232,6 @@ IsDoneBy task.Recorded start streams = IsRecorded start streams
 IsDoneBy (task.Session form) start streams = IsHeld form start streams
 IsDoneBy (task.Compare expected form) start streams =
     PrintsExpected (unexplained form) start streams.trace expected.reader × Keeps streams.held streams.holds
-IsDoneBy (task.Drawn keep width) start streams =
-    IsDrawn (processors_of start) streams.trace × WritesPicture streams.held streams.holds
-IsDoneBy task.Paged start streams = IsDrawn (processors_of start) streams.trace × WritesPage streams.held streams.holds
 
 -- a task stopped at line n
 abbrev pub StopsBy : KnownTask → Bench → Streams → ℕ → Type 0
@@ -258,8 +243,6 @@ StopsBy task.Recorded start streams n = IsRecordStopped start streams n
 StopsBy (task.Session form) start streams n = ⊥
 StopsBy (task.Compare expected form) start streams n =
     IsCutShort (unexplained form) start streams.trace expected.reader n × Keeps streams.held streams.holds
-StopsBy (task.Drawn keep width) start streams n = IsUndrawn start streams n
-StopsBy task.Paged start streams n = IsUndrawn start streams n
 
 -- a task could read no further of its trace
 abbrev pub UnreadBy : KnownTask → Bench → Streams → Type 0
@@ -271,8 +254,6 @@ UnreadBy task.Recorded start streams = IsRecordUnread start streams
 UnreadBy (task.Session form) start streams = IsUnheard form start streams
 UnreadBy (task.Compare expected form) start streams =
     IsCutOff (unexplained form) start streams.trace expected.reader × Keeps streams.held streams.holds
-UnreadBy (task.Drawn keep width) start streams = Keeps streams.held streams.holds
-UnreadBy task.Paged start streams = Keeps streams.held streams.holds
 
 -- a task could read no further of what is expected, whose path this is
 abbrev pub UnmatchedBy : KnownTask → Bench → Streams → Bor (List ℕ) → Type 0
@@ -293,11 +274,6 @@ UnmetBy (task.Guarded form) start streams n = IsUnmet form start streams n
 UnmetBy (task.GuardedToEnd form) start streams n = IsUnmetInAll form start streams n
 UnmetBy other start streams n = ⊥
 
--- a task would draw more rows than this many
-abbrev pub OverfullBy : KnownTask → Bench → Streams → ℕ → Type 0
-OverfullBy (task.Drawn keep width) start streams most = IsOverfull keep start streams most
-OverfullBy other start streams most = ⊥
-
 -- a task with the trace at this path fails; a play refuses no manifest, and reads no descriptor. What can't be read is
 -- named: the trace, or what is expected.
 abbrev pub PlayFails : KnownTask → (trace : Bor (List ℕ)) → Bench → Streams → Failure → Type 0
@@ -308,7 +284,6 @@ PlayFails task trace start streams failure.Write = ⊤
 PlayFails task trace start streams failure.NoMemory = ⊤
 PlayFails task trace start streams failure.Differs = DiffersBy task start streams.trace
 PlayFails task trace start streams (failure.Unmet n) = UnmetBy task start streams n
-PlayFails task trace start streams (failure.TooManyRows most) = OverfullBy task start streams most
 PlayFails task trace start streams other = ⊥
 
 -- a task with the trace at this path is done, or fails

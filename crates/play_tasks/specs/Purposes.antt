@@ -7,7 +7,7 @@ use Rattle.play_forms.specs.declared.form.Form.{Form}
 use Rattle.play_forms.specs.Forms.{plain}
 use Rattle.play_report.specs.declared.failure.Failure.{Failure}
 use Rattle.play_report.specs.declared.failure.Failure.TheVariants as failure
-use Rattle.play_tasks.specs.Plays.{KnownTask, form_of, keep_of}
+use Rattle.play_tasks.specs.Plays.{KnownTask, form_of}
 use Rattle.play_tasks.specs.declared.task.Expected.{Expected}
 use Rattle.play_tasks.specs.declared.task.Task.{Task}
 use Rattle.play_tasks.specs.declared.task.Task.TheVariants as task
@@ -27,8 +27,6 @@ known remaining (task.GuardedToEnd form) = task.GuardedToEnd form
 known remaining task.Recorded = task.Recorded
 known remaining (task.Session form) = task.Session form
 known remaining (task.Compare expected form) = comparison_of remaining expected form
-known remaining (task.Drawn keep width) = task.Drawn keep width
-known remaining task.Paged = task.Paged
 
 -- whether a purpose is a session, which tells of bad lines and goes on: guards are checked of none
 abbrev pub is_session_for : Purpose → Bool
@@ -55,9 +53,6 @@ IsTaskFor (purpose.Print text strict keep_going interactive) opened (task.Sessio
 IsTaskFor purpose.Record opened task.Recorded = ⊤
 IsTaskFor (purpose.Compare path text) opened (task.Compare expected form) =
     (opened ≡ Some expected.reader) × (path ≡ expected.path) × (form_of text ≡ form)
-IsTaskFor (purpose.Draw drawing) opened (task.Drawn keep width) =
-    (drawing.page ≡ false) × (keep_of drawing ≡ keep) × (drawing.width ≡ width)
-IsTaskFor (purpose.Draw drawing) opened task.Paged = drawing.page ≡ true
 IsTaskFor purpose opened task = ⊥
 
 -- there is no task, since the text to compare with can't be opened

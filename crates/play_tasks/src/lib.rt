@@ -5,7 +5,6 @@
 mod comparing;
 mod counting;
 mod machines;
-mod paging;
 mod playing;
 mod task;
 

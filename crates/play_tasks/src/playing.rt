@@ -1,17 +1,15 @@
 // SPDX-License-Identifier: MIT OR Apache-2.0
-//! Plays of a trace: its text printed as the player prints it or in a form, or its picture.
-ghost use Rattle.std.specs.Prelude.{◌≡◌, ◌⊎◌, IfErr, IfOk, OnOk};
+//! Plays of a trace: its text printed as the player prints it or in a form.
+ghost use Rattle.std.specs.Prelude.{◌≡◌, ◌⊎◌, IfErr, IfOk, None, Ok, OnOk, []};
 ghost use Rattle.std.specs.Io.Buffered.{reader_remaining};
 ghost use Rattle.ffa_playable.specs.Bench.{processors_of};
-ghost use Rattle.play_tasks.specs.Plays.{EndsGuards, Plays, TellsGuards, streams_of};
+ghost use Rattle.play_tasks.specs.Plays.{EndsGuards, Plays, PlaysTrace, TellsGuards, streams_of};
 
 use crate::task::{Task, Trace};
 use ffa_playable::Playable;
-use play_drawing::Keep;
-use play_forms::{Breach, Form, Tally, put_unmet};
-use play_picture::picture_of;
+use play_forms::{Breach, Form, Listener, Printer, Recorder, Tally, play, put_unmet};
 use play_player::Player;
-use play_report::{Failure, print_picture, tell_met, tell_near, tell_unmet};
+use play_report::{Failure, tell_met, tell_near, tell_unmet};
 use std::alloc::Allocator;
 use std::io::{BufReader, Read, Write};
 
@@ -46,6 +44,34 @@ pub(crate) fn buffer<A: Allocator, R: Read + Drop>(
     }
 }
 
+/// Plays a trace to a listener. `line` gets the bytes of the line that was read last.
+pub(crate) fn play_trace<
+    'a,
+    A: Allocator + Copy,
+    P: Playable,
+    R: Read + Drop,
+    W: Write,
+    L: Listener,
+>(
+    player: &mut Player<P>,
+    alloc: A,
+    trace: Trace<'a, R>,
+    out: &mut W,
+    listener: &mut L,
+    line: &mut Vec<u8, A>,
+) -> Result<Option<L::Stop>, Failure<'a>>
+    requires { let held = W.contents out.old in L.heard player.old.bench [] listener.old listener.old held held (Ok None) }
+    ensures { let streams = streams_of R.remaining trace.entry.reader W.contents out.old out.new in
+        PlaysTrace L.heard trace.entry.path player.old.bench streams line.new.items listener.old listener.new result }
+{
+    let Trace { path, reader } = trace;
+    let mut reader = buffer(alloc, reader)?;
+    match play(player, alloc, &mut reader, out, listener, line) {
+        Ok(stop) => Ok(stop),
+        Err(error) => Err(Failure::of_line(path, error, player.processors(), line)),
+    }
+}
+
 /// Plays a trace, and prints its text in a form.
 pub(crate) fn play_in_form<'a, A: Allocator + Copy, P: Playable, R: Read + Drop, W: Write>(
     player: &mut Player<P>,
@@ -57,12 +83,17 @@ pub(crate) fn play_in_form<'a, A: Allocator + Copy, P: Playable, R: Read + Drop,
     ensures { let streams = streams_of R.remaining trace.entry.reader W.contents out.old out.new in
         Plays (Task.Formed form) trace.entry.path player.old.bench streams result }
 {
-    let Trace { path, reader } = trace;
-    let mut reader = buffer(alloc, reader)?;
-    let mut line = Vec::new(alloc);
-    match play_forms::play(player, alloc, form, &mut reader, out, &mut line) {
-        Ok(()) => Ok(()),
-        Err(error) => Err(Failure::of_line(path, error, player.processors(), &line)),
+    let mut printer = Printer::new(alloc, form);
+    match play_trace(
+        player,
+        alloc,
+        trace,
+        out,
+        &mut printer,
+        &mut Vec::new(alloc),
+    ) {
+        Ok(_) => Ok(()),
+        Err(failure) => Err(failure),
     }
 }
 
@@ -180,12 +211,17 @@ pub(crate) fn record<'a, A: Allocator + Copy, P: Playable, R: Read + Drop, W: Wr
     ensures { let streams = streams_of R.remaining trace.entry.reader W.contents out.old out.new in
         Plays Task.Recorded trace.entry.path player.old.bench streams result }
 {
-    let Trace { path, reader } = trace;
-    let mut reader = buffer(alloc, reader)?;
-    let mut line = Vec::new(alloc);
-    match play_forms::record(player, alloc, &mut reader, out, &mut line) {
-        Ok(()) => Ok(()),
-        Err(error) => Err(Failure::of_line(path, error, player.processors(), &line)),
+    let mut recorder = Recorder::new(alloc);
+    match play_trace(
+        player,
+        alloc,
+        trace,
+        out,
+        &mut recorder,
+        &mut Vec::new(alloc),
+    ) {
+        Ok(_) => Ok(()),
+        Err(failure) => Err(failure),
     }
 }
 
@@ -213,27 +249,5 @@ pub(crate) fn play_session<
     match play_forms::play_session(player, alloc, form, &mut reader, out, err) {
         Ok(()) => Ok(()),
         Err(error) => Err(Failure::of_play(path, error, None)),
-    }
-}
-
-/// Prints the picture of a trace, once it was played to its end, or says that it would have too many rows.
-pub(crate) fn draw<'a, A: Allocator + Copy, P: Playable, R: Read + Drop, W: Write>(
-    player: &mut Player<P>,
-    alloc: A,
-    keep: Keep,
-    width: u64,
-    trace: Trace<'a, R>,
-    out: &mut W,
-) -> Result<(), Failure<'a>>
-    ensures { let streams = streams_of R.remaining trace.entry.reader W.contents out.old out.new in
-        Plays (Task.Drawn keep width) trace.entry.path player.old.bench streams result }
-{
-    let Trace { path, reader } = trace;
-    let mut reader = buffer(alloc, reader)?;
-    let mut line = Vec::new(alloc);
-    match picture_of(player, alloc, keep, &mut reader, &mut line) {
-        Ok(Ok(picture)) => print_picture(&picture, width, out),
-        Ok(Err(large)) => Err(Failure::TooManyRows(large.most)),
-        Err(error) => Err(Failure::of_line(path, error, player.processors(), &line)),
     }
 }

@@ -1,18 +1,16 @@
 // SPDX-License-Identifier: MIT OR Apache-2.0
 //! What is done with a trace.
 ghost use Rattle.std.specs.Prelude.{◌≡◌, false, IfErr, IfOk, option_map};
-ghost use Rattle.play_tasks.specs.Plays.{Plays, form_of, keep_of, streams_of, talks};
+ghost use Rattle.play_tasks.specs.Plays.{Plays, form_of, streams_of, talks};
 ghost use Rattle.play_tasks.specs.Purposes.{IsTaskFor, LacksItsText, is_session_for, known};
 
 use crate::comparing::compare;
 use crate::machines::Play;
-use crate::paging::print_page;
 use crate::playing::{
-    draw, play_guarded, play_in_form, play_past_guards, play_plainly, play_session, record,
+    play_guarded, play_in_form, play_past_guards, play_plainly, play_session, record,
 };
 use ffa_playable::Playable;
-use play_arguments::{PictureOptions, Purpose, TextOptions};
-use play_drawing::Keep;
+use play_arguments::{Purpose, TextOptions};
 use play_forms::Form;
 use play_player::Player;
 use play_report::Failure;
@@ -41,14 +39,6 @@ pub enum Task<'a, R> {
         expected: Expected<'a, R>,
         form: Form,
     },
-    /// Its picture is printed, with these rows, to fit this width in pixels where that isn't 0. What is wrong with a bad line
-    /// is looked for.
-    Drawn {
-        keep: Keep,
-        width: u64,
-    },
-    /// Its page is printed. What is wrong with a bad line is looked for.
-    Paged,
 }
 
 // A form by what is asked for.
@@ -61,13 +51,6 @@ fn form_of(text: TextOptions) -> Form
         explain: text.explain,
         short: text.short,
     }
-}
-
-// The lines that are asked for of a picture.
-fn keep_of(drawing: PictureOptions) -> Keep
-    ensures { result ≡ keep_of drawing }
-{
-    Keep::new(drawing.every, drawing.refused)
 }
 
 impl<'a, R: Read + Drop> Task<'a, R> {
@@ -114,11 +97,6 @@ impl<'a, R: Read + Drop> Task<'a, R> {
                 }),
                 None => Err(Failure::Read(path)),
             },
-            Purpose::Draw(drawing) if drawing.page => Ok(Task::Paged),
-            Purpose::Draw(drawing) => Ok(Task::Drawn {
-                keep: keep_of(drawing),
-                width: drawing.width,
-            }),
         }
     }
 }
@@ -163,7 +141,5 @@ pub fn do_task<'a, A: Allocator + Copy, P: Playable, R: Read + Drop, W: Write, E
         Task::Recorded => record(player, alloc, trace, out),
         Task::Session(form) => play_session(player, alloc, form, trace, out, err),
         Task::Compare { expected, form } => compare(player, alloc, expected, form, trace, out),
-        Task::Drawn { keep, width } => draw(player, alloc, keep, width, trace, out),
-        Task::Paged => print_page(player, alloc, trace, out),
     }
 }

@@ -6,7 +6,7 @@ use crate::machines::{FlatPlayer, booted};
 use ffa_model::FaultKind;
 use ffa_reasons::Explained;
 use play_demo::built_in;
-use play_forms::{CompareError, Form, Mismatch, Sides, compare, play, play_session};
+use play_forms::{CompareError, Form, Mismatch, Printer, Sides, compare, play, play_session};
 use play_player::Player;
 use play_syntax::{PlayError, text};
 use std::alloc::Global;
@@ -36,8 +36,11 @@ struct Left {
 
 fn played_on(player: &mut FlatPlayer, alloc: Global, trace: &str) -> Left {
     let (mut out, mut bytes) = (Vec::new(alloc), Vec::new(alloc));
-    let (form, mut left) = (Form::default(), trace.as_bytes());
-    let ended = play(player, alloc, form, &mut left, &mut out, &mut bytes);
+    let (mut printer, mut left) = (Printer::new(alloc, Form::default()), trace.as_bytes());
+    let ended = match play(player, alloc, &mut left, &mut out, &mut printer, &mut bytes) {
+        Ok(_) => Ok(()),
+        Err(error) => Err(error),
+    };
     Left { out, ended }
 }
 

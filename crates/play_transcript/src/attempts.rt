@@ -1,5 +1,5 @@
 // SPDX-License-Identifier: MIT OR Apache-2.0
-//! What is tried in a trace, in words.
+//! The comments of a trace, which say in words what an endpoint tries.
 ghost use Rattle.std.specs.Prelude.{◌≡◌, ◌++◌, OnOk};
 ghost use Rattle.play_syntax.specs.TraceText.{ended, hex, spaced};
 ghost use Rattle.play_transcript.specs.Attempts.{attempt_text, change_words, deed_words, other_words};
@@ -8,7 +8,7 @@ use ffa_model::EndpointId;
 use play_syntax::text::{self, Text};
 use std::alloc::{AllocError, Allocator};
 
-/// What an endpoint does.
+/// A deed of an endpoint: what it does or tries to do.
 #[derive(Clone, Copy, PartialEq, Eq)]
 pub enum Deed {
     Setup,
@@ -45,7 +45,7 @@ pub enum Deed {
     Show,
 }
 
-/// What is wrong with it, or otherwise than it is mostly.
+/// The way in which a deed is wrong, or differs from its usual form.
 #[derive(Clone, Copy, PartialEq, Eq)]
 pub enum Change {
     Nothing,
@@ -106,18 +106,18 @@ pub enum Change {
     Pending,
 }
 
-/// What an endpoint tries.
+/// An attempt of an endpoint, with its deed and what is wrong with the deed.
 #[derive(Clone, Copy)]
 pub struct Attempt {
     /// The endpoint that runs.
     pub actor: EndpointId,
     pub deed: Deed,
-    /// The endpoint to which it is done, where the words of the deed ask for one.
+    /// The endpoint to which the actor does the deed, if the words of the deed name one.
     pub other: Option<EndpointId>,
     pub change: Change,
 }
 
-/// Puts a comment that says what is tried behind a text.
+/// Appends a comment to a text. The comment says what an endpoint tries. Fails if there is no memory.
 pub(crate) fn put_attempt<A: Allocator>(
     text: &mut Vec<u8, A>,
     attempt: &Attempt,

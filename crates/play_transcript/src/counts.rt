@@ -1,5 +1,5 @@
 // SPDX-License-Identifier: MIT OR Apache-2.0
-//! How often what came.
+//! Counts of the outcomes of operations.
 ghost use Rattle.std.specs.Prelude.{◌≡◌, ◌<◌, ◌≤◌, ◌==◌, suc, position, replicate, slice_index, IfSome};
 ghost use Rattle.std.specs.Option.{option_map_or};
 ghost use Rattle.ffa_model.specs.Registers.{low};
@@ -13,25 +13,25 @@ use ffa_model::function::FFA_ERROR;
 use ffa_model::{CALLS, ErrorCode, FaultKind, Manifest, Op, Outcome, Refusal, Why};
 use play_reasons::check_number;
 
-/// The row of what is no call.
+/// The row of all identifiers that are no call.
 const UNKNOWN: usize = CALLS.len();
 
-/// As many rows as calls, one of what is no call, and those of three kinds of access.
+/// The number of rows: one for each call, one for all identifiers that are no call, and one for each kind of access.
 const ROWS: usize = CALLS.len() + 4;
 
-/// How many counts a row has: one of what was done, and one for each error or fault.
+/// The number of counts in a row: one for success, and one for each error or fault.
 const COLUMNS: usize = 7;
 
-/// The calls, what is no call, and the accesses.
+/// The number of counts in all rows.
 const CELLS: usize = COLUMNS * ROWS;
 
-/// No call has more checks.
+/// The largest number of checks that a call has.
 const MOST_CHECKS: usize = 16;
 
-/// As many checks of each call, and of what is no call.
+/// The number of counts of checks: MOST_CHECKS for each call, and for all identifiers that are no call.
 const CHECKS: usize = MOST_CHECKS * (UNKNOWN + 1);
 
-/// FFA_VERSION's refusal, in w0.
+/// The refusal of FFA_VERSION, in w0.
 const NO_VERSION: u64 = 0xFFFF_FFFF;
 
 /// A kind of access to memory.
@@ -42,20 +42,22 @@ pub enum AccessKind {
     Fetch,
 }
 
-/// How often each call succeeded, how often each error came and at which check, and of accesses how often each was done and
-/// each fault came. The two forms of a call count as one, and so do all identifiers that are of no call. A count stops at its
-/// highest.
+/// Counts of outcomes. For each call, they say how often it succeeded, how often each error came, and at which check.
+/// For each kind of access, they say how often it succeeded, and how often each fault came.
+///
+/// The two forms of a call count as one call. All identifiers that are no call count as one. A count that is 2^64 - 1
+/// remains so.
 #[derive(Drop)]
 pub struct Counts {
-    /// A count for each row and column, row by row.
+    /// The count of each row and column, row by row.
     pub cells: [u64; CELLS],
-    /// A count for each check of each row.
+    /// The count of each check of each row, row by row.
     pub checks: [u64; CHECKS],
-    /// What everybody may do on the machine, where it is known.
+    /// The facts about all endpoints of the machine, as far as they are known.
     pub everyone: Everyone,
 }
 
-// The row of a call, in either form that it has.
+// Returns the row of a call, by its identifier in either form.
 fn row_of(function: u32) -> usize
     ensures row { result ≡ place_in_rows function }
     ensures few { result ≤ UNKNOWN }
@@ -63,7 +65,7 @@ fn row_of(function: u32) -> usize
     call_place(function)
 }
 
-// The row of an access.
+// Returns the row of a kind of access.
 fn row_of_access(access: AccessKind) -> usize
     ensures row { result ≡ row_of_access access }
     ensures few { result < ROWS }
@@ -108,7 +110,7 @@ fn column_of_fault(fault: FaultKind) -> usize
     fault as usize
 }
 
-// The column of an error, by the number that stands in w2.
+// Returns the column of an error, by the number in w2, or column 0 if the number is no error's.
 fn column_of_number(number: u64) -> usize
     ensures column { result ≡ option_map_or suc (position (λ other. number == other) error_numbers) 0 }
     ensures few { result < 7 }
@@ -124,7 +126,7 @@ fn column_of_number(number: u64) -> usize
     }
 }
 
-// The column of what registers answer.
+// Returns the column of an outcome, by the registers that the next runner sees.
 #[tactic(auto, unfolding(crate::specs::Counting::column_of_registers))]
 fn column_of_registers(x: &[u64; 8]) -> usize
     ensures column { result ≡ column_of_registers x.now }
@@ -159,7 +161,7 @@ fn cell(row: usize, column: usize) -> usize
     COLUMNS * row + column
 }
 
-// Where the count of a row's check stands, which is counted from 1.
+// Returns the place of the count of a check of a row. The number of a row's first check is 1.
 fn check_cell(row: usize, number: usize) -> usize
     requires row { row ≤ UNKNOWN }
     requires some { 1 ≤ number }
@@ -170,7 +172,8 @@ fn check_cell(row: usize, number: usize) -> usize
     MOST_CHECKS * row + number - 1
 }
 
-// The number of a call's check, which is one of its first 16.
+// Returns the number of a check among the checks of a call, or `None` if the call does not have this check. The number
+// is from 1 to 16.
 fn number_of(x: &[u64; 8], refusal: Refusal) -> Option<usize>
     ensures number { result ≡ number_of (low (slice_index x.now 0)) refusal }
     ensures some { IfSome result (λ number. 1 ≤ number) }
@@ -179,7 +182,7 @@ fn number_of(x: &[u64; 8], refusal: Refusal) -> Option<usize>
     check_number(low(x[0]), refusal)
 }
 
-// Where the count of an operation's check stands, if it has that check.
+// Returns the place of the count of an operation's check, or `None` if the operation does not have this check.
 fn check_cell_of(op: &Op, refusal: Refusal) -> Option<usize>
     ensures cell { result ≡ check_cell_of op.now refusal }
     ensures few { IfSome result (λ cell. cell < CHECKS) }
@@ -194,7 +197,7 @@ fn check_cell_of(op: &Op, refusal: Refusal) -> Option<usize>
 }
 
 impl Counts {
-    /// Nothing has come, on a machine of which nothing is known.
+    /// Returns counts that are all 0, for a machine about which nothing is known.
     pub fn new() -> Counts
         ensures cells { result.cells ≡ replicate CELLS 0 }
         ensures checks { result.checks ≡ replicate CHECKS 0 }
@@ -206,7 +209,7 @@ impl Counts {
         }
     }
 
-    /// Nothing has come, on the machine of a manifest.
+    /// Returns counts that are all 0, for the machine of a manifest.
     pub fn on(manifest: &Manifest) -> Counts
         ensures cells { result.cells ≡ replicate CELLS 0 }
         ensures checks { result.checks ≡ replicate CHECKS 0 }
@@ -216,7 +219,8 @@ impl Counts {
         counts
     }
 
-    /// Counts what came of an operation, and the check at which it was refused, where it is refused for that.
+    /// Counts the outcome of an operation. If `why` is a refused check of this operation's call, it counts this check
+    /// as well.
     pub fn count(&mut self, op: &Op, outcome: &Outcome, why: Option<Why>)
         ensures cells { CountsOne (cell (row_of_operation op.now) (column_of outcome.now)) self.old.cells self.new.cells }
         ensures checks { CountsCheck (check_of op.now why) self.old.checks self.new.checks }
@@ -227,7 +231,7 @@ impl Counts {
         }
     }
 
-    /// Counts what came of an operation.
+    /// Counts the outcome of an operation, without its check.
     pub fn note(&mut self, op: &Op, outcome: &Outcome)
         ensures cells { CountsOne (cell (row_of_operation op.now) (column_of outcome.now)) self.old.cells self.new.cells }
         ensures checks { self.new.checks ≡ self.old.checks }
@@ -236,7 +240,8 @@ impl Counts {
         self.cells[cell] = self.cells[cell].saturating_add(1);
     }
 
-    /// Counts the check at which an operation was refused, where it is one of the operation's.
+    /// Counts the check at which an operation was refused, if the operation's call has this check. Otherwise no count
+    /// changes.
     pub fn note_check(&mut self, op: &Op, refusal: Refusal)
         ensures checks { CountsCheck (check_cell_of op.now refusal) self.old.checks self.new.checks }
         ensures cells { self.new.cells ≡ self.old.cells }
@@ -246,7 +251,8 @@ impl Counts {
         }
     }
 
-    /// How often a call was refused at a check, by the registers of any such call; 0 where the check is none of the call's.
+    /// Returns how often a call was refused at a check. The registers of any call with this identifier name the call.
+    /// Returns 0 if the call does not have this check.
     pub fn count_refused(&self, x: &[u64; 8], refusal: Refusal) -> u64
         ensures { result ≡ option_map_or (slice_index self.now.checks) (check_cell_of (Op.Call x.now) refusal) 0 }
     {
@@ -256,28 +262,28 @@ impl Counts {
         }
     }
 
-    /// How often a call succeeded, by its identifier in either form.
+    /// Returns how often a call succeeded, by its identifier in either form.
     pub fn successes(&self, function: u32) -> u64
         ensures { result ≡ slice_index self.now.cells (cell (place_in_rows function) 0) }
     {
         self.cells[cell(row_of(function), 0)]
     }
 
-    /// How often a call was refused with this error, by its identifier in either form.
+    /// Returns how often a call was refused with this error, by its identifier in either form.
     pub fn refusals(&self, function: u32, code: ErrorCode) -> u64
         ensures { result ≡ slice_index self.now.cells (cell (place_in_rows function) (column_of_error code)) }
     {
         self.cells[cell(row_of(function), column_of_error(code))]
     }
 
-    /// How often such an access was done.
+    /// Returns how often an access of this kind succeeded.
     pub fn count_done(&self, access: AccessKind) -> u64
         ensures { result ≡ slice_index self.now.cells (cell (row_of_access access) 0) }
     {
         self.cells[cell(row_of_access(access), 0)]
     }
 
-    /// How often such an access ended in this fault.
+    /// Returns how often an access of this kind ended in this fault.
     pub fn faults(&self, access: AccessKind, fault: FaultKind) -> u64
         ensures { result ≡ slice_index self.now.cells (cell (row_of_access access) (column_of_fault fault)) }
     {
@@ -286,7 +292,7 @@ impl Counts {
 }
 
 impl Default for Counts {
-    /// Nothing has come.
+    /// Returns counts that are all 0, for a machine about which nothing is known.
     fn default() -> Counts
         ensures cells { result.cells ≡ replicate CELLS 0 }
         ensures checks { result.checks ≡ replicate CHECKS 0 }

@@ -1,5 +1,5 @@
 // SPDX-License-Identifier: MIT OR Apache-2.0
-//! The lines that a turn gave, and their text.
+//! The lines of a turn, and their text.
 ghost use Rattle.std.specs.Prelude.{◌≡◌, ◌%◌, ◌^◌, [], ◌∷◌, length, map, min, take, IfOk, OnOk};
 ghost use Rattle.ffa_model.specs.Memory.{size_of};
 ghost use Rattle.play_transcript.specs.Traces.{fitted};
@@ -14,13 +14,14 @@ use std::alloc::{AllocError, Allocator};
 #[derive(Clone, Copy)]
 pub enum TraceEntry {
     Operation(Op),
-    /// A comment.
+    /// A comment, which says what an endpoint tries.
     Attempt(Attempt),
     Show,
     Audit,
 }
 
-/// The same operation, where a store has the lowest bytes of its value, as many as it moves.
+/// Returns an operation unchanged, except that a store has only the lowest bytes of its value: the 1, 2, 4 or 8 bytes
+/// that it moves.
 pub fn fit_store(op: &Op) -> Op
     ensures { result ≡ fitted op.now }
 {
@@ -34,7 +35,7 @@ pub fn fit_store(op: &Op) -> Op
     }
 }
 
-// The lowest bytes of a value.
+// Returns the lowest bytes of a value: the number of bytes that the size says.
 fn lowest(value: u64, size: Size) -> u64
     ensures { result ≡ value % 256 ^ size_of size }
 {
@@ -46,7 +47,8 @@ fn lowest(value: u64, size: Size) -> u64
     }
 }
 
-/// Puts the lines of the first entries behind a text, as many as there may be, and answers how many those are.
+/// Appends the lines of the first entries to a text, of at most `most` entries. Returns the number of lines that it
+/// appended. Fails if there is no memory.
 pub fn put_entries<A: Allocator>(
     text: &mut Vec<u8, A>,
     entries: &[TraceEntry],
@@ -65,7 +67,7 @@ pub fn put_entries<A: Allocator>(
     Ok(count)
 }
 
-// Puts a line behind a text.
+// Appends the line of an entry to a text.
 fn put_entry<A: Allocator>(text: &mut Vec<u8, A>, entry: &TraceEntry) -> Result<(), AllocError>
     ensures { OnOk result (GrowsByLines (meant entry.now ∷ []) text.old.items text.new.items) }
 {

@@ -1,5 +1,5 @@
 // SPDX-License-Identifier: MIT OR Apache-2.0
-//! What was counted, as text.
+//! The text of counts.
 use crate::counts::{AccessKind, Counts};
 use crate::unreached::why_unreached;
 use ffa_model::function::FFA_ERROR;
@@ -56,7 +56,7 @@ fn name_of_access(access: AccessKind) -> &'static str {
 }
 
 impl Counts {
-    // A line of a call: how often it succeeded, and each error that came.
+    // Writes the line of a call: how often it succeeded, and how often each error came.
     fn put_call<W: fmt::Write>(
         &self,
         f: &mut fmt::Formatter<W>,
@@ -73,7 +73,7 @@ impl Counts {
         writeln!(f)
     }
 
-    // A line of an access, alike.
+    // Writes the line of a kind of access: how often it succeeded, and how often each fault came.
     fn put_access<W: fmt::Write>(
         &self,
         f: &mut fmt::Formatter<W>,
@@ -89,7 +89,7 @@ impl Counts {
         writeln!(f)
     }
 
-    // A line of each check of a call, by its identifier.
+    // Writes a line for each check of a call, by the call's identifier.
     fn put_checks<W: fmt::Write>(
         &self,
         f: &mut fmt::Formatter<W>,
@@ -105,7 +105,7 @@ impl Counts {
         Ok(())
     }
 
-    // How often a call was refused at a check, or why it never was.
+    // Writes how often a call was refused at a check, or why it never was.
     fn put_check<W: fmt::Write>(
         &self,
         f: &mut fmt::Formatter<W>,
@@ -122,7 +122,7 @@ impl Counts {
         }
     }
 
-    // The lines of the checks of each call, and of what is no call.
+    // Writes the lines of the checks of each call, and of the identifiers that are no call.
     fn put_all_checks<W: fmt::Write>(&self, f: &mut fmt::Formatter<W>) -> fmt::Result {
         for (function, name, _, _) in CALLS {
             self.put_checks(f, name, *function)?;
@@ -131,14 +131,15 @@ impl Counts {
     }
 }
 
-// The registers of a call without arguments.
+// Returns the registers of a call without arguments.
 fn bare_call(function: u32) -> [u64; 8] {
     [u64::from(function), 0, 0, 0, 0, 0, 0, 0]
 }
 
-/// A line for each call, for what is no call and for each kind of access: its name, how often it was done, and each error
-/// or fault that came, with how often. Behind these a line for each check of each call: how often it was the first to fail, or
-/// why it wasn't reached, where that is known.
+/// Writes a line for each call, for all identifiers that are no call and for each kind of access. The line has a name,
+/// the number of successes, and each error or fault that came, with its number. After these lines comes a line for each
+/// check of each call. It says how often the check was the first to fail, or why no trace reached it, if the reason is
+/// known.
 impl fmt::Display for Counts {
     fn fmt<W: fmt::Write>(&self, f: &mut fmt::Formatter<W>) -> fmt::Result {
         for (function, name, _, _) in CALLS {

@@ -1,13 +1,13 @@
 // SPDX-License-Identifier: MIT OR Apache-2.0
-//! Whose turn it is.
+//! The endpoint whose turn it is.
 ghost use Rattle.std.specs.Prelude.{◌≡◌, ◌≤◌, ◌%◌};
 ghost use Rattle.ffa_model.specs.declared.limits.TheConstants.{MOST_ENDPOINTS};
 ghost use Rattle.ffa_model.specs.Identifiers.{identifier};
 
 use ffa_model::EndpointId;
 
-/// The endpoint whose turn it is, on a machine with so many endpoints: in each round everybody has a turn, since
-/// chance alone seldom hands cycles to the last ones.
+/// Returns the endpoint whose turn it is, by the number of the turn and the number of endpoints of the machine. In each
+/// round every endpoint has a turn, since chance by itself seldom gives cycles to the last ones.
 pub fn actor_of(turn: u64, endpoints: usize) -> EndpointId
     requires some { 1 ≤ endpoints }
     requires few { endpoints ≤ MOST_ENDPOINTS }

@@ -1,5 +1,5 @@
 // SPDX-License-Identifier: MIT OR Apache-2.0
-//! Why traces don't reach a check.
+//! The reasons why traces do not reach a check.
 ghost use Rattle.std.specs.Prelude.{◌≡◌, ◌==◌, ◌&&◌, bit_and, drop, is_none, is_some, not, true, if◌then◌else◌, None, Some};
 ghost use Rattle.std.specs.List.{list_all};
 ghost use Rattle.ffa_model.specs.Codes.{serves_1_1};
@@ -12,8 +12,9 @@ use ffa_model::function::{
 };
 use ffa_model::{Endpoint, Ffa, Manifest, Properties, Refusal};
 
-/// What every endpoint of a machine may do, of direct requests and of indirect messages; of receiving requests every partition.
-/// And whether all of its memory is alike, one processor alone runs it, and which version of FF-A it serves.
+/// Facts about a machine. They say whether every endpoint may send direct requests, whether every partition may receive
+/// them, and whether every endpoint takes part in indirect messages. They say whether the machine does not separate
+/// secure and non-secure memory, whether only one processor runs it, and which version of FF-A it serves.
 #[derive(Clone, Copy, Default)]
 pub struct Everyone {
     pub sends_requests: bool,
@@ -26,7 +27,7 @@ pub struct Everyone {
 }
 
 impl Everyone {
-    /// On no machine at all, where all of it is so.
+    /// The facts about no machine, which are all true.
     pub const NOWHERE: Everyone = Everyone {
         sends_requests: true,
         receives_requests: true,
@@ -37,7 +38,7 @@ impl Everyone {
         serves_1_2: true,
     };
 
-    /// On the machine of a manifest, which one processor runs alone.
+    /// Returns the facts about the machine of a manifest, which only one processor runs.
     pub fn of(manifest: &Manifest) -> Everyone
         ensures sends { result.sends_requests ≡ have_all 1 manifest.now.endpoints.items }
         ensures receives { result.receives_requests ≡ have_all 0 (drop 1 manifest.now.endpoints.items) }
@@ -60,7 +61,7 @@ impl Everyone {
         }
     }
 
-    /// On these machines and on others.
+    /// Returns the facts that are true both of these machines and of others.
     pub fn and(self, other: Everyone) -> Everyone
         ensures sends { result.sends_requests ≡ (self.sends_requests && other.sends_requests) }
         ensures receives { result.receives_requests ≡ (self.receives_requests && other.receives_requests) }
@@ -93,8 +94,8 @@ fn all_have(endpoints: &[Endpoint], wanted: Properties) -> bool
     true
 }
 
-/// Why no trace fails a check of a call, by the call's identifier, where a trace of any length, or one of fewer than 65,535
-/// sends, never does.
+/// Returns why no trace fails a check of a call, by the call's identifier. The reason applies to traces of any length,
+/// or to traces with fewer than 65,535 sends. Returns `None` for all other checks.
 pub fn why_unreached(everyone: Everyone, function: u32, refusal: Refusal) -> Option<&'static str>
     ensures { is_some result ≡ is_unreached everyone function refusal }
 {
@@ -145,7 +146,7 @@ pub fn why_unreached(everyone: Everyone, function: u32, refusal: Refusal) -> Opt
 
 const LATER: &str = "only a machine of FF-A 1.2 makes this check";
 
-// A reason, where it holds.
+// Returns a reason if it holds.
 fn of_call(holds: bool, reason: &'static str) -> Option<&'static str>
     ensures { result ≡ (if holds then Some reason.entry else None) }
 {

@@ -1,5 +1,5 @@
 // SPDX-License-Identifier: MIT OR Apache-2.0
-//! Writing a trace turn by turn.
+//! Writes a trace turn by turn.
 ghost use Rattle.std.specs.Prelude.{◌≡◌, ◌≤◌, [], ◌∷◌, length, take, IfOk, OnOk};
 ghost use Rattle.std.specs.Io.KnownBytes.{Appends};
 ghost use Rattle.play_syntax.specs.TraceLines.{skip};
@@ -11,23 +11,24 @@ use std::alloc::Allocator;
 use std::io::Write;
 use thiserror::Error;
 
-/// Why no trace was written, or no whole one.
+/// The reason why a trace was not written, or not written whole.
 #[derive(Clone, Copy, Debug, PartialEq, Eq, Error)]
 pub enum GenerateError {
     #[error("no memory")]
     NoMemory,
-    /// The writer failed, or took nothing.
+    /// The writer failed, or took no byte.
     #[error("cannot write")]
     Write,
 }
 
-/// What gives the lines of a trace, a turn at a time.
+/// A source of the lines of a trace, one turn at a time.
 pub trait Turns {
-    /// Plays a turn, and answers its lines, of which no more than so many are taken.
+    /// Plays a turn, and returns its lines. The caller uses at most the first `most` of these lines.
     fn play_turn(&mut self, most: u64) -> Result<&[TraceEntry], GenerateError>;
 }
 
-/// Plays turns, and writes so many lines of a trace.
+/// Plays turns, and writes this number of lines of a trace. Fails if there is no memory, or if the writer fails or
+/// takes no byte.
 pub fn write_turns<P: Turns, A: Allocator, W: Write>(
     alloc: A,
     turns: &mut P,
@@ -44,7 +45,7 @@ pub fn write_turns<P: Turns, A: Allocator, W: Write>(
     Ok(())
 }
 
-// Plays a turn, writes its lines, of which there may be so many, and answers how many those are.
+// Plays a turn, writes its lines, which are at most `most`, and returns the number of the lines.
 fn write_turn<P: Turns, A: Allocator, W: Write>(
     turns: &mut P,
     text: &mut Vec<u8, A>,
@@ -62,7 +63,8 @@ fn write_turn<P: Turns, A: Allocator, W: Write>(
     Ok(count)
 }
 
-// Makes the text of a turn, of the first so many lines at most, and answers how many it has. A turn without lines says so.
+// Makes the text of a turn from at most the first `most` entries, and returns its number of lines. A turn without
+// entries has one line that says so.
 fn put_turn<A: Allocator>(
     text: &mut Vec<u8, A>,
     entries: &[TraceEntry],
@@ -82,7 +84,7 @@ fn put_turn<A: Allocator>(
     }
 }
 
-// Puts a line that does nothing behind a text.
+// Appends a line that does nothing to a text, and returns 1.
 fn put_nothing<A: Allocator>(text: &mut Vec<u8, A>) -> Result<u64, GenerateError>
     ensures line { OnOk result (GrowsByLines (skip ∷ []) text.old.items text.new.items) }
     ensures one { IfOk result (λ count. count ≡ 1) }
@@ -93,7 +95,7 @@ fn put_nothing<A: Allocator>(text: &mut Vec<u8, A>) -> Result<u64, GenerateError
     }
 }
 
-// Writes all of a text, by as many writes as it takes.
+// Writes all of a text, by the number of writes that it needs.
 fn write_text<W: Write>(out: &mut W, text: &[u8]) -> Result<(), GenerateError>
     ensures { OnOk result (Appends (W.contents out.old) (W.contents out.new) text.now) }
 {

@@ -1,34 +1,36 @@
 // SPDX-License-Identifier: MIT OR Apache-2.0
-//! What the registers of each call hold, once: definitions, contracts and functions name this table (DEN0077A, 11 to
-//! 16). A wrong row breaks no proof: they are to be read beside the standard's tables.
+//! The table of the arguments of each call, with their places in the registers (DEN0077A, 11 to 16). Definitions,
+//! contracts and functions use this one table. No proof fails if a row is wrong, so compare the rows with the
+//! standard's tables.
 
 use crate::name::Name;
 use ffa_model::function::*;
 
-/// Where a number stands, in the register of this number or from it on.
+/// The place of a number in the registers of a call. It names the register, or the first of several registers.
 #[derive(Clone, Copy, Debug, PartialEq, Eq)]
 pub enum Place {
-    /// Bits 31 to 16.
+    /// Bits 31 to 16 of this register.
     High(u32),
-    /// Bits 15 to 0.
+    /// Bits 15 to 0 of this register.
     Low(u32),
-    /// Bits 31 to 0, or all 64 where the call's form reads the register whole.
+    /// Bits 31 to 0 of this register, or all 64 bits if the form of the call reads the register whole.
     Word(u32),
-    /// Bits 31 to 0 of registers side by side, of which the first has the lowest bits of the number.
+    /// Bits 31 to 0 of consecutive registers. This register is the first one, and has the lowest bits of the number.
     Words(u32),
 }
 
-/// What stands for an argument that isn't given.
+/// The value of an argument that the words do not give.
 #[derive(Clone, Copy, Debug, PartialEq, Eq)]
 pub enum Usual {
-    /// Nothing: it has to be given.
+    /// No value: the words must give the argument.
     Needed,
     Zero,
-    /// What is given as `length`.
+    /// The value of the argument `length`.
     Length,
 }
 
-/// Of an argument its name; where its number stands; the largest that it may be, in the 32-bit form; and what stands for it.
+/// An argument: its name, the place of its number, the largest number that it may be in the 32-bit form, and its value
+/// if the words do not give it.
 pub type Argument = (Name, Place, u128, Usual);
 
 macro_rules! arguments {

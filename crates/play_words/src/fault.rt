@@ -1,48 +1,48 @@
 // SPDX-License-Identifier: MIT OR Apache-2.0
-//! Why the words of a call say none.
+//! The reasons why words are no call.
 
 use crate::arguments::Usual;
 use crate::function::arguments_of;
 use crate::name::Name;
 use std::fmt;
 
-/// What is wrong first with a call in words, and the column of its word, where the first byte of the line has column 1. An
-/// argument that is missing would stand behind the line's last byte.
+/// The first fault of a call in words, and the column of its word. The first byte of the line has column 1. The column
+/// of a missing argument is the column after the line's last byte.
 #[derive(Clone, Copy, Debug, PartialEq, Eq)]
 pub struct WordsFault {
     pub column: usize,
     pub cause: Cause,
 }
 
-/// What is wrong with a word of a call.
+/// A fault of a word of a call.
 #[derive(Clone, Copy, Debug, PartialEq, Eq)]
 pub enum Cause {
     /// No call has the name.
     UnknownCall,
-    /// No `=` stands in the word.
+    /// The word has no `=`.
     NoArgument,
-    /// The call whose 32-bit form has this identifier has no argument of the name.
+    /// The call has no argument of the name. The number is the identifier of the call's 32-bit form.
     UnknownArgument(u32),
-    /// The argument was given before.
+    /// An earlier word gives the argument.
     Twice,
-    /// No hexadecimal number stands behind the `=`.
+    /// The text after `=` is no hexadecimal number.
     NoNumber,
-    /// No UUID in a form that a manifest has stands behind the `=`.
+    /// The text after `=` is no UUID in a form that a manifest has.
     NoUuid,
-    /// Neither a hexadecimal number nor the name of a call stands behind the `=`.
+    /// The text after `=` is neither a hexadecimal number nor the name of a call.
     NoFeature,
     /// The number is larger than this one, which is the largest that the argument may be.
     TooLarge(u128),
-    /// The argument of this name isn't given.
+    /// The words do not give the argument of this name, which the call needs.
     Missing(Name),
 }
 
-/// Why a line isn't lowered.
+/// The reason why a line is not translated into the plain format.
 #[derive(Clone, Copy, Debug)]
 pub enum LowerError {
     /// There is no memory.
     NoMemory,
-    /// The words say no call.
+    /// The words are no call.
     Words(WordsFault),
 }
 

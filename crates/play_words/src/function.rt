@@ -11,18 +11,19 @@ use ffa_model::{CALLS, CallRow};
 /// A call in one of its forms.
 #[derive(Clone, Copy)]
 pub struct Function {
-    /// The identifier of the 32-bit form.
+    /// The identifier of the call's 32-bit form.
     pub narrow: u32,
-    /// The identifier of this form.
+    /// The identifier of this form of the call.
     pub number: u32,
-    /// It is the 64-bit form.
+    /// Whether this is the 64-bit form.
     pub is_wide: bool,
-    /// The registers that the 64-bit form reads or answers whole.
+    /// The numbers of the registers that the 64-bit form reads or answers whole.
     pub whole: &'static [u32],
     pub arguments: &'static [Argument],
 }
 
-/// The call of a name, behind which `_64` stands for the 64-bit form.
+/// Returns the call of a name. The name ends in `_64` for the 64-bit form. Returns `None` if no call has the name, or
+/// if the call does not have this form.
 #[tactic(auto, unfolding(crate::specs::Calls::function_named))]
 pub(crate) fn function_named(name: &[u8]) -> Option<Function>
     ensures { option_map form_of result ≡ function_named name.now }
@@ -38,7 +39,7 @@ pub(crate) fn function_named(name: &[u8]) -> Option<Function>
     }
 }
 
-// What stands before `_64` at the end of a name.
+// Returns the text before `_64` at the end of a name, or `None` if the name does not end so.
 fn front_of(name: &[u8]) -> Option<&[u8]>
     ensures { option_map (λ front. front.now) result ≡ front_of name.now }
 {
@@ -50,7 +51,7 @@ fn front_of(name: &[u8]) -> Option<&[u8]>
     }
 }
 
-// A call in its 64-bit form or its other.
+// Returns a call in its 64-bit form or in its 32-bit form.
 fn in_form(is_wide: bool, row: &CallRow) -> Option<Function>
     ensures { option_map form_of result ≡ in_form is_wide (told row.now) }
 {
@@ -76,7 +77,7 @@ fn row_named(name: &[u8]) -> Option<&'static CallRow>
     CALLS.iter().find(|row| row.1.as_bytes() == name)
 }
 
-/// The arguments of a call, by the identifier of its 32-bit form.
+/// Returns the arguments of a call, by the identifier of its 32-bit form, or `None` if there is no such call.
 #[tactic(auto, unfolding(crate::specs::Calls::arguments_of))]
 pub(crate) fn arguments_of(function: u32) -> Option<&'static [Argument]>
     ensures { option_map (λ arguments. arguments.now) result ≡ arguments_of function }

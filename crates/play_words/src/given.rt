@@ -14,14 +14,15 @@ use play_syntax::number::number_in;
 use std::alloc::Allocator;
 use uuid::Uuid;
 
-/// An argument with the number that was given for it.
+/// An argument, with the number that a word gives for it.
 #[derive(Clone, Copy)]
 pub struct Given {
     pub argument: Argument,
     pub value: u128,
 }
 
-/// The first word, and what stands behind the space after it.
+/// Cuts off the first word of a text. Returns the word, and the text after the space that follows it. The second part
+/// is `None` if no space follows the word.
 pub(crate) fn cut_word(text: &[u8]) -> (&[u8], Option<&[u8]>)
     ensures words { words_of text.now ≡ result.0.now ∷ words_left result.1 }
     ensures length { length text.now ≡ length result.0.now + left_length result.1 }
@@ -32,14 +33,15 @@ pub(crate) fn cut_word(text: &[u8]) -> (&[u8], Option<&[u8]>)
     }
 }
 
-// Where a byte stands first.
+// Returns the index of the first byte with this value.
 fn first_of(text: &[u8], byte: u8) -> Option<usize>
     ensures { result ≡ position (λ c. c == byte) text.now }
 {
     text.iter().position(|c| *c == byte)
 }
 
-/// The arguments that words give, of which the first stands at this column, in the order in which they stand.
+/// Reads the arguments that words give, in the order of the words. The first of these words is in the column `column`.
+/// Fails at the first word that gives no argument of the call, or if there is no memory.
 pub(crate) fn read_given<A: Allocator + Copy>(
     alloc: A,
     function: &Function,
@@ -67,7 +69,7 @@ pub(crate) fn read_given<A: Allocator + Copy>(
     Ok(given)
 }
 
-// What one word gives, behind what was given before it.
+// Returns the argument that one word gives, after the arguments that words before it gave.
 #[tactic(auto, unfolding(crate::specs::Words::given_in))]
 fn given_in(function: &Function, before: &[Given], word: &[u8]) -> Result<Given, Cause>
     ensures { result ≡ given_in (form_of function.now) before.now word.now }
@@ -96,7 +98,7 @@ fn named_in(function: &Function, before: &[Given], name: &[u8], text: &[u8]) -> 
     }
 }
 
-// The number that a text writes of an argument of this name.
+// Returns the number that a text writes for an argument of this name.
 fn value_in(name: Name, text: &[u8]) -> Result<u128, Cause>
     ensures { result ≡ value_in name text.now }
 {
@@ -107,7 +109,7 @@ fn value_in(name: Name, text: &[u8]) -> Result<u128, Cause>
     }
 }
 
-// The number of a UUID, which is written as in a manifest: its first byte has the lowest bits.
+// Returns the number of a UUID, which is written as in a manifest. The first byte of the UUID has the lowest bits.
 #[tactic(auto, unfolding(crate::specs::Words::uuid_in))]
 fn uuid_in(text: &[u8]) -> Option<u128>
     ensures { result ≡ uuid_in text.now }
@@ -118,7 +120,7 @@ fn uuid_in(text: &[u8]) -> Option<u128>
     }
 }
 
-// A feature is a number, or the call of a name.
+// Returns the number of a feature, which the text writes as a number or as the name of a call.
 #[tactic(auto, unfolding(crate::specs::Words::feature_in))]
 fn feature_in(text: &[u8]) -> Option<u128>
     ensures { result ≡ feature_in text.now }
@@ -149,7 +151,7 @@ fn is_given(given: &[Given], name: &[u8]) -> bool
         .any(|one| one.argument.0.text().as_bytes() == name)
 }
 
-// The largest number that an argument may be in the form that the call has.
+// Returns the largest number that an argument may be in this form of the call.
 fn most_of(function: &Function, argument: &Argument) -> u128
     ensures { result ≡ most_of (form_of function.now) argument.now }
 {
@@ -159,14 +161,15 @@ fn most_of(function: &Function, argument: &Argument) -> u128
     }
 }
 
-// Whether the form reads a register whole.
+// Whether this form of the call reads a register whole.
 fn is_whole(function: &Function, register: u32) -> bool
     ensures { result ≡ is_whole (form_of function.now) register }
 {
     function.is_wide && function.whole.contains(&register)
 }
 
-/// The first argument that isn't given and has to be.
+/// Returns the name of the first argument that the call needs and the words do not give, or `None` if there is no such
+/// argument.
 pub(crate) fn first_missing(function: &Function, given: &[Given]) -> Option<Name>
     ensures { result ≡ option_map (λ argument. argument.0) (find (is_missing given.now) function.now.arguments.now) }
 {
@@ -211,7 +214,7 @@ fn value_named(given: &[Given], name: &[u8]) -> Option<u128>
     }
 }
 
-/// The registers of a call with these arguments.
+/// Returns the registers of a call with these arguments.
 pub(crate) fn registers(function: &Function, given: &[Given]) -> [u64; 8]
     ensures { result ≡ registers (form_of function.now) given.now }
 {
@@ -227,7 +230,7 @@ pub(crate) fn registers(function: &Function, given: &[Given]) -> [u64; 8]
     ]
 }
 
-// What a register has, by its number.
+// Returns the value of a register, by its number.
 fn register_of(function: &Function, given: &[Given], number: u32) -> u64
     ensures { result ≡ register_of (form_of function.now) given.now number }
 {
@@ -239,7 +242,7 @@ fn register_of(function: &Function, given: &[Given], number: u32) -> u64
     held
 }
 
-// What a register, by its number, has of an argument of this value.
+// Returns the bits of a register, by its number, that come from an argument with this value.
 fn share(function: &Function, place: Place, value: u128, number: u32) -> u64
     ensures { result ≡ share (form_of function.now) place value number }
 {
@@ -255,7 +258,7 @@ fn share(function: &Function, place: Place, value: u128, number: u32) -> u64
     }
 }
 
-// The 32-bit word of a number at this place, from the lowest.
+// Returns the 32-bit word of a number at this place. Place 0 has the lowest bits.
 fn word_at(value: u128, place: u32) -> u64
     ensures { result ≡ word_at value place }
 {

@@ -1,6 +1,6 @@
 // SPDX-License-Identifier: MIT OR Apache-2.0
-//! Translates a line with names of calls and arguments into a line of the plain format. Its numbers may begin with
-//! `0x`.
+//! Translates a line with names of calls and arguments into a line of the plain format. The numbers of such a line may
+//! begin with `0x`.
 #![tactic(auto)]
 
 mod arguments;

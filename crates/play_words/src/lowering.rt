@@ -1,5 +1,5 @@
 // SPDX-License-Identifier: MIT OR Apache-2.0
-//! Lines in words, and the lines of the plain format that they come to.
+//! Translates lines in words into lines of the plain format.
 ghost use Rattle.std.specs.Prelude.{◌≡◌, ◌+◌, ◌<◌, ◌^◌, [], ◌++◌, drop, false, length, true, IfErr, IfOk, OnOk, Ok, List, ℕ};
 ghost use Rattle.ffa_model.specs.declared.operation.Op.TheVariants.{Call};
 ghost use Rattle.play_syntax.specs.TraceLines.{words_of};
@@ -15,10 +15,12 @@ use play_syntax::number::bare;
 use play_writer::put_operation;
 use std::alloc::{AllocError, Allocator};
 
-/// The line of the plain format that a line in words comes to, with its LF; the LF that ends a line is none of `line`.
+/// Translates a line in words into the line of the plain format, with its LF. The given line does not have its LF.
 ///
-/// A line that begins with `call FFA_` names a call and its arguments, and comes to the call that these registers make. A
-/// comment stays as it is, and so does any other line, but that the words behind its first lose their `0x`.
+/// A line that begins with `call FFA_` names a call and its arguments. It becomes the call with the registers of these
+/// arguments. A comment stays as it is. In any other line only the words after the first change: they lose their `0x`.
+///
+/// Fails if there is no memory. A line that begins with `call FFA_` also fails if its words are no call.
 pub fn lower_line<A: Allocator + Copy>(alloc: A, line: &[u8]) -> Result<Vec<u8, A>, LowerError>
     ensures call { is_named line.now ≡ true
         → IfOk result (λ text. (x : List ℕ) × (call_in (drop 5 line.now) ≡ Ok x) × GrowsBy (Call x) [] text.items) }
@@ -36,7 +38,7 @@ pub fn lower_line<A: Allocator + Copy>(alloc: A, line: &[u8]) -> Result<Vec<u8, 
     }
 }
 
-// The line of the call that words say behind `call `.
+// Returns the line of the call that the words after `call ` say.
 fn lower_call<A: Allocator + Copy>(alloc: A, text: &[u8]) -> Result<Vec<u8, A>, LowerError>
     requires { length text.now + 6 < 2 ^ 64 }
     ensures call { IfOk result (λ line. (x : List ℕ) × (call_in text.now ≡ Ok x) × GrowsBy (Call x) [] line.items) }
@@ -50,7 +52,7 @@ fn lower_call<A: Allocator + Copy>(alloc: A, text: &[u8]) -> Result<Vec<u8, A>, 
     }
 }
 
-// The registers of that call.
+// Returns the registers of the call that the words after `call ` say.
 #[tactic(auto, unfolding(crate::specs::Words::call_in))]
 fn read_call<A: Allocator + Copy>(alloc: A, text: &[u8]) -> Result<[u64; 8], LowerError>
     requires { length text.now + 6 < 2 ^ 64 }
@@ -73,7 +75,7 @@ fn refuse(column: usize, cause: Cause) -> LowerError
     LowerError::Words(WordsFault { column, cause })
 }
 
-// The line that any other comes to.
+// Returns the plain form of any other line, with its LF.
 #[tactic(auto, unfolding(crate::specs::Words::plain_line))]
 fn plain_line<A: Allocator>(alloc: A, line: &[u8]) -> Result<Vec<u8, A>, AllocError>
     ensures { IfOk result (λ text. text.items ≡ ended (plain_line line.now)) }
@@ -88,7 +90,7 @@ fn plain_line<A: Allocator>(alloc: A, line: &[u8]) -> Result<Vec<u8, A>, AllocEr
     Ok(text)
 }
 
-// Puts a line of which the words behind the first lose their `0x`.
+// Appends a line whose words after the first lose their `0x`.
 fn put_unmarked<A: Allocator>(text: &mut Vec<u8, A>, line: &[u8]) -> Result<(), AllocError>
     ensures { OnOk result (text.new.items ≡ text.old.items ++ unmarked (words_of line.now)) }
 {

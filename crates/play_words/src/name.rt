@@ -1,11 +1,11 @@
 // SPDX-License-Identifier: MIT OR Apache-2.0
-//! The names of arguments, which are those of the Python package.
+//! The names of arguments, which are the same in the Python package.
 ghost use Rattle.std.specs.Prelude.{◌≡◌};
 ghost use Rattle.play_words.specs.Names.{name_text};
 
 use std::fmt;
 
-/// The name of an argument. It prints as that.
+/// The name of an argument. It prints as a line in words has it.
 #[derive(Clone, Copy, Debug, PartialEq, Eq)]
 pub enum Name {
     Major,
@@ -36,7 +36,7 @@ pub enum Name {
 }
 
 impl Name {
-    /// How it is written.
+    /// Returns the text of the name, as a line in words has it.
     pub fn text(self) -> &'static str
         ensures { result.now ≡ name_text self }
     {

@@ -1,5 +1,5 @@
 // SPDX-License-Identifier: MIT OR Apache-2.0
-//! An access descriptor, as it is written.
+//! Writes access descriptors.
 
 ghost use Rattle.std.specs.Prelude.{◌+◌, ◌^◌, ◌<◌, ◌≤◌, List, ℕ, length, ◌++◌};
 ghost use Rattle.ffa_model.specs.DescriptorPlaces.{accesses_size};
@@ -10,7 +10,8 @@ use ffa_memdesc::parts::write_access_rest;
 use ffa_memdesc::put::{put_u8, put_u16, put_u32};
 use ffa_model::{EndpointId, Version};
 
-/// Writes an access descriptor at a place. It tells the composite's place.
+/// Writes an access descriptor of this version into a page, from the byte at the offset `at` on. The descriptor says
+/// that the composite begins at the byte `composite`.
 pub fn write_access(
     page: &mut [u8],
     version: Version,

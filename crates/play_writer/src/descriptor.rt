@@ -1,5 +1,5 @@
 // SPDX-License-Identifier: MIT OR Apache-2.0
-//! Descriptors that are written by lines.
+//! Lines of a trace that write a descriptor.
 
 ghost use Rattle.std.specs.Prelude.{◌≡◌, ◌%◌, ◌≤◌, List, ℕ, [], ◌∷◌, ◌++◌, length, take, IfOk, OnOk, OnErr};
 ghost use Rattle.std.specs.Result.{result_err};
@@ -20,37 +20,38 @@ use ffa_model::{Address, EndpointId, Kind, Op, Version};
 use std::alloc::{AllocError, Allocator};
 use thiserror::Error;
 
-/// A descriptor of a memory transaction, and what it is for (DEN0077A, 5.11 and 16).
+/// A descriptor of a memory transaction, and the call that it is for (DEN0077A, 5.11 and 16).
 #[derive(Drop)]
 pub enum DescriptorContents {
-    /// For FFA_MEM_SHARE, FFA_MEM_LEND or FFA_MEM_DONATE, as the kind says.
+    /// A descriptor for FFA_MEM_SHARE, FFA_MEM_LEND or FFA_MEM_DONATE, as the kind says.
     Send {
         kind: Kind,
         desc: SendDesc,
     },
-    /// For FFA_MEM_RETRIEVE_REQ.
+    /// A descriptor for FFA_MEM_RETRIEVE_REQ, with the endpoint that retrieves.
     Retrieve {
         desc: RetrieveDesc,
         receiver: EndpointId,
     },
-    /// For FFA_MEM_RELINQUISH.
+    /// A descriptor for FFA_MEM_RELINQUISH.
     Relinquish(RelinquishDesc),
 }
 
-/// Why no lines were put.
+/// The reason why the lines of a descriptor were not appended.
 #[derive(Clone, Copy, Debug, PartialEq, Eq, Error)]
 pub enum ScriptError {
     /// There is no memory for the lines.
     #[error("no memory")]
     NoMemory,
-    /// No bytes say what the descriptor does.
+    /// No bytes of a descriptor say these contents.
     #[error("{0}")]
     Unfit(Unfit),
 }
 
-/// Puts the lines that write a descriptor into TX and make its call behind a text: the stores of its bytes, then the call of
-/// FFA_MEM_DONATE, FFA_MEM_LEND, FFA_MEM_SHARE, FFA_MEM_RETRIEVE_REQ or FFA_MEM_RELINQUISH. TX begins a page, and the caller
-/// has this version. After an error the text is as it was.
+/// Appends lines to a text that write a descriptor into TX and make its call. First come the stores of the descriptor's
+/// bytes, then the call. It is FFA_MEM_DONATE, FFA_MEM_LEND, FFA_MEM_SHARE, FFA_MEM_RETRIEVE_REQ or FFA_MEM_RELINQUISH.
+///
+/// TX begins at a page, and the caller has this version. After an error the text is as it was.
 pub fn put_descriptor<A: Allocator>(
     text: &mut Vec<u8, A>,
     version: Version,
@@ -74,7 +75,7 @@ pub fn put_descriptor<A: Allocator>(
     }
 }
 
-// Writes a descriptor from the page's first byte on, and answers how many bytes it has.
+// Writes a descriptor from the page's first byte on, and returns its size in bytes.
 fn write_descriptor(
     version: Version,
     descriptor: &DescriptorContents,
@@ -103,7 +104,7 @@ fn function_of(kind: Kind) -> u32
     }
 }
 
-// The registers of the call with a descriptor of this length in TX.
+// Returns the registers of the call with a descriptor of this length in TX. The length is in bytes.
 fn call_with(descriptor: &DescriptorContents, length: u64) -> [u64; 8]
     ensures { result ≡ call_with descriptor.now length }
 {
@@ -115,8 +116,9 @@ fn call_with(descriptor: &DescriptorContents, length: u64) -> [u64; 8]
     [u64::from(function), told, told, 0, 0, 0, 0, 0]
 }
 
-// Puts the stores of bytes from an address on, and a call behind them. Zeros are stored too, since TX may hold anything, and eight bytes
-// at once where eight are left: so the lines can be read beside the tables of a descriptor.
+// Appends the stores of bytes from an address on, and a call after them. It stores zeros too, since TX may hold
+// anything. It stores eight bytes at once as long as eight remain. So a reader can compare the lines with the tables of
+// a descriptor.
 fn put_called<A: Allocator>(
     text: &mut Vec<u8, A>,
     tx: Address,

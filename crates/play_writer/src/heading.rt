@@ -1,5 +1,5 @@
 // SPDX-License-Identifier: MIT OR Apache-2.0
-//! The transaction header, as it is written.
+//! Writes transaction headers.
 
 ghost use Rattle.std.specs.Prelude.{◌≤◌, length};
 ghost use Rattle.ffa_model.specs.DescriptorPlaces.{header_size};
@@ -10,7 +10,7 @@ use ffa_memdesc::parts::{told_access_size, write_rest};
 use ffa_memdesc::put::{put_u16, put_u32, put_u64};
 use ffa_model::{EndpointId, Version};
 
-/// What a header says.
+/// The contents of a transaction header.
 #[derive(Clone, Copy)]
 pub struct Heading {
     pub sender: EndpointId,
@@ -18,11 +18,12 @@ pub struct Heading {
     pub flags: u32,
     pub handle: u64,
     pub tag: u64,
-    /// How many access descriptors there are.
+    /// The number of access descriptors.
     pub count: u32,
 }
 
-/// Writes a header, with the access descriptors right behind it.
+/// Writes a transaction header of this version from the page's first byte on. The header says that the access
+/// descriptors follow directly after it.
 pub fn write_heading(page: &mut [u8], version: Version, heading: &Heading)
     requires { header_size version ≤ length page.old }
     ensures { Wrote page.old (heading_bytes version heading.now) (header_size version) page.new }

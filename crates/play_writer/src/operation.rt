@@ -13,9 +13,11 @@ use ffa_model::{Op, Size};
 use play_syntax::text::{push_hex, push_word};
 use std::alloc::{AllocError, Allocator};
 
-/// Puts the line of a trace that does this operation behind a text, with its LF. An address has 8 digits where they do,
-/// else 16; a register has as many as it needs, and registers behind x0 that are zero up to x7 are left out. A store's value
-/// has to fit its size. Where there is no memory, the text stays.
+/// Appends the line of a trace that does this operation to a text, with its LF. An address has 8 digits if they are
+/// enough, and otherwise 16. A register has the digits that it needs. A call's line leaves out the zero registers at
+/// its end, but never x0.
+///
+/// A store's value must fit its size. If there is no memory, the text stays as it is.
 pub fn put_operation<A: Allocator>(text: &mut Vec<u8, A>, op: &Op) -> Result<(), AllocError>
     requires { IsProper op.now }
     ensures written { OnOk result (GrowsBy op.now text.old.items text.new.items) }
@@ -52,7 +54,8 @@ fn push_call(line: &mut LineText, x: &[u64; 8])
     }
 }
 
-/// How many registers are told: all up to the last that isn't zero, and x0.
+/// Returns the number of registers that a call's line names: x0 and all others up to the last register that is not
+/// zero.
 fn registers_told(x: &[u64; 8]) -> usize
     ensures some { 1 ≤ result }
     ensures few { result ≤ 8 }

@@ -11,15 +11,15 @@ use ffa_model::Op;
 use ffa_model::function::FFA_MEM_RECLAIM;
 use std::alloc::{AllocError, Allocator};
 
-/// What the registers of FFA_MEM_RECLAIM say (DEN0077A, 16).
+/// The contents of the registers of FFA_MEM_RECLAIM (DEN0077A, 16).
 #[derive(Clone, Copy, Debug, PartialEq, Eq)]
 pub struct Reclaim {
     pub handle: u64,
-    /// The pages are to be zeroed.
+    /// Whether the reclaim must zero the pages.
     pub zero: bool,
 }
 
-// The registers of the call: the low half of the handle, its high half, and the flags.
+// Returns the registers of the call: the identifier, the low half of the handle, its high half, and the flags.
 fn reclaim_with(reclaim: Reclaim) -> [u64; 8]
     ensures { result ≡ reclaim_with reclaim }
 {
@@ -31,7 +31,7 @@ fn reclaim_with(reclaim: Reclaim) -> [u64; 8]
     [function, low, high, reclaim.zero as u64, 0, 0, 0, 0]
 }
 
-/// Puts the line of the call of FFA_MEM_RECLAIM behind a text. Where there is no memory, the text stays.
+/// Appends the line of a call of FFA_MEM_RECLAIM to a text. If there is no memory, the text stays as it is.
 pub fn put_reclaim<A: Allocator>(text: &mut Vec<u8, A>, reclaim: Reclaim) -> Result<(), AllocError>
     ensures written { OnOk result (GrowsBy (Call (reclaim_with reclaim)) text.old.items text.new.items) }
     ensures kept { OnErr result (text.new.items ≡ text.old.items) }

@@ -1,5 +1,5 @@
 // SPDX-License-Identifier: MIT OR Apache-2.0
-//! Relinquish descriptors.
+//! Writes relinquish descriptors.
 
 ghost use Rattle.std.specs.Prelude.{◌≡◌, take, drop};
 ghost use Rattle.ffa_model.specs.RelinquishDescriptor.{Relinquish};
@@ -7,11 +7,11 @@ ghost use Rattle.ffa_model.specs.RelinquishDescriptor.{Relinquish};
 use ffa_memdesc::put::{put_u16, put_u32, put_u64};
 use ffa_model::{EndpointId, RelinquishDesc};
 
-/// How many bytes a relinquish descriptor of one endpoint has.
+/// The size in bytes of a relinquish descriptor with one endpoint.
 const SIZE: u32 = 18;
 
-/// Writes a relinquish descriptor of one endpoint (DEN0077A, 5.11 and 16) from the page's first byte on, and answers how many
-/// bytes it has. The rest of the page stays.
+/// Writes a relinquish descriptor with one endpoint (DEN0077A, 5.11 and 16) from the page's first byte on. Returns its
+/// size in bytes, which is 18. The rest of the page stays as it is.
 pub fn write_relinquish(desc: &RelinquishDesc, page: &mut [u8; 4096]) -> u32
     ensures size { result ≡ 18 }
     ensures read { Relinquish (take result page.new) desc.now }

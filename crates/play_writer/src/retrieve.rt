@@ -1,5 +1,5 @@
 // SPDX-License-Identifier: MIT OR Apache-2.0
-//! Retrieve descriptors.
+//! Writes retrieve descriptors.
 
 ghost use Rattle.std.specs.Prelude.{◌≡◌, ◌+◌, ◌*◌, take, drop};
 ghost use Rattle.ffa_model.specs.declared.manifest.Ffa.{Ffa};
@@ -11,7 +11,8 @@ use crate::heading::{Heading, write_heading};
 use ffa_memdesc::parts::{accesses_size, header_size};
 use ffa_model::{Data, EndpointId, Kind, RetrieveDesc, Version};
 
-/// The flags: the kind in bits 4:3.
+/// Returns the flags of a retrieve, with the kind of the transaction in bits 4:3. They are 0 if the retrieve names no
+/// kind.
 fn flags_of(kind: Option<Kind>) -> u32
     ensures { result ≡ 8 * kind_code kind }
 {
@@ -23,7 +24,7 @@ fn flags_of(kind: Option<Kind>) -> u32
     }
 }
 
-/// The permissions: data in bits 1:0, instructions in bits 3:2.
+/// Returns the permissions of a retrieve: the right to data in bits 1:0, and the right to instructions in bits 3:2.
 fn permissions_of(level: Option<Data>, exec: bool) -> u8
     ensures { result ≡ data_code level + 4 * exec_code exec }
 {
@@ -35,8 +36,8 @@ fn permissions_of(level: Option<Data>, exec: bool) -> u8
     if exec { level + 8 } else { level + 4 }
 }
 
-/// Writes a retrieve descriptor for a receiver of this version (DEN0077A, 5.11 and 16) from the page's first byte on, and
-/// answers how many bytes it has. The rest of the page stays.
+/// Writes a retrieve descriptor for a receiver of this version (DEN0077A, 5.11 and 16) from the page's first byte on.
+/// Returns its size in bytes. The rest of the page stays as it is.
 pub fn write_retrieve(
     version: Version,
     desc: &RetrieveDesc,

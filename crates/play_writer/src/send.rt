@@ -1,5 +1,5 @@
 // SPDX-License-Identifier: MIT OR Apache-2.0
-//! Send descriptors.
+//! Writes send descriptors.
 
 ghost use Rattle.std.specs.Prelude.{◌≡◌, ◌+◌, ◌*◌, ◌^◌, ◌<◌, ◌≤◌, ℕ, List, length, ◌++◌, get_or, take, drop, None, IfOk, OnErr, if◌then◌else◌, flat_map};
 ghost use Rattle.std.specs.Result.{result_err};
@@ -20,7 +20,7 @@ use ffa_memdesc::parts::{
 };
 use ffa_model::{Data, EndpointId, Kind, Receiver, SendDesc, Version};
 
-/// What the header of a send says.
+/// Returns the contents of the header of a send.
 fn heading_of(kind: Kind, sender: EndpointId, zero: bool, tag: u64, count: u32) -> Heading
     ensures exact { result ≡ record {
       sender = sender;
@@ -44,7 +44,7 @@ fn heading_of(kind: Kind, sender: EndpointId, zero: bool, tag: u64, count: u32) 
     }
 }
 
-/// The permissions: data in bits 1:0.
+/// Returns the permissions that a send grants, with the right to data in bits 1:0.
 fn grant_code(grant: Option<Data>) -> u8
     ensures { result ≡ data_code grant }
 {
@@ -83,7 +83,7 @@ fn write_receivers(
     }
 }
 
-/// Writes what breaks no condition.
+/// Writes the descriptor of a record that breaks no condition. Returns its size in bytes.
 fn write_fit(version: Version, kind: Kind, desc: &SendDesc, page: &mut [u8; 4096]) -> u32
     requires { first_broken (conditions kind (send_record desc.now)) ≡ None }
     ensures size { result ≡ send_size version (send_record desc.now) }
@@ -103,9 +103,11 @@ fn write_fit(version: Version, kind: Kind, desc: &SendDesc, page: &mut [u8; 4096
     composite + 16 + 16 * ranges.len() as u32
 }
 
-/// Writes a send descriptor of this kind from the page's first byte on (DEN0077A, 5.11 and 16), and answers how many
-/// bytes it has. The rest of the page stays. Where the record breaks a condition the page stays, the error says which, and
-/// no bytes are read as that record.
+/// Writes a send descriptor of this kind (DEN0077A, 5.11 and 16) from the page's first byte on. Returns its size in
+/// bytes. The rest of the page stays as it is.
+///
+/// If the record breaks a condition, the error says which condition, and the page stays as it is. Then no bytes are a
+/// descriptor that says this record.
 pub fn write_send(
     version: Version,
     kind: Kind,

@@ -9,8 +9,9 @@ use byteorder::{ByteOrder, LittleEndian};
 use ffa_model::{Address, Op, Size};
 use std::alloc::{AllocError, Allocator};
 
-/// Puts the stores that leave these bytes from an address on behind a text: each of eight bytes, and what is left over in
-/// stores of 4, 2 and 1. Where there is no memory, the text stays.
+/// Appends stores to a text that leave these bytes from an address on. Each store has eight bytes, and the last ones
+/// have 4, 2 or 1 if fewer bytes remain. The address is a multiple of 8, and all bytes are below 2^32. If there is no
+/// memory, the text stays as it is.
 pub fn put_stores<A: Allocator>(
     text: &mut Vec<u8, A>,
     address: Address,
@@ -51,7 +52,7 @@ fn put_each<A: Allocator>(
     Ok(())
 }
 
-// The largest size that so many bytes fill.
+// Returns the largest size of a store that this number of bytes fills.
 fn largest(count: usize) -> Size
     ensures { result ≡ largest count }
 {

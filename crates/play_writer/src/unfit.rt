@@ -1,5 +1,5 @@
 // SPDX-License-Identifier: MIT OR Apache-2.0
-//! Which records a send descriptor can say.
+//! The records that a send descriptor can say.
 
 ghost use Rattle.std.specs.Prelude.{◌≡◌, ◌≤◌, ◌%◌, ◌^◌, ◌==◌, nat_le, length, if◌then◌else◌};
 ghost use Rattle.std.specs.List.{list_all};
@@ -14,16 +14,16 @@ use ffa_memdesc::parts::{is_apart_from, is_named, page_total, range_end};
 use ffa_model::{Data, EndpointId, Kind, MOST_RECEIVERS, Range, Receiver, SendDesc};
 use std::fmt;
 
-/// The condition of a send descriptor (DEN0077A, 5.11 and 16) that a record breaks.
+/// A condition of a send descriptor (DEN0077A, 5.11 and 16) that a record breaks.
 #[derive(Clone, Copy, Debug, PartialEq, Eq)]
 pub enum Unfit {
-    /// A share asks for zeroed pages.
+    /// A share requests that its pages are zeroed.
     ZeroedShare,
     NoReceiver,
     SeveralReceiversOfADonate,
-    /// A share or a lend grants a receiver no data right.
+    /// A share or a lend grants a receiver no right to data.
     GrantMissing,
-    /// A donate grants a data right.
+    /// A donate grants a right to data.
     GrantOfADonate,
     ReceiverIsSender,
     ReceiverTwice,
@@ -34,11 +34,11 @@ pub enum Unfit {
     /// A range ends above 2^48.
     RangeTooHigh,
     RangesOverlap,
-    /// The ranges have more pages together than the composite can tell.
+    /// The ranges have more pages together than the composite can say: 2^32 or more.
     TooManyPages,
 }
 
-/// The cause of the first condition that doesn't hold.
+/// Returns the cause of the first condition that does not hold, or `None` if all hold.
 fn first_broken(conditions: &[(bool, Unfit)]) -> Option<Unfit>
     ensures { result ≡ first_broken conditions.now }
 {
@@ -58,7 +58,7 @@ fn most_receivers(kind: Kind) -> usize
     }
 }
 
-/// Whether a send of this kind may grant this.
+/// Whether a send of this kind may grant a receiver this right to data. `None` means no right.
 fn is_grant(kind: Kind, grant: Option<Data>) -> bool
     ensures { result ≡ is_grant kind (data_code grant) }
 {
@@ -148,7 +148,7 @@ fn unfit_ranges(ranges: &[Range]) -> Option<Unfit>
     ])
 }
 
-/// Whether bit 0 of the flags may stand in a send of this kind.
+/// Whether a send of this kind may have this value in bit 0 of its flags.
 fn may_zero(kind: Kind, zero: bool) -> bool
     ensures { result ≡ nat_le (if zero then 1 else 0) (most_flags kind) }
 {
@@ -158,7 +158,8 @@ fn may_zero(kind: Kind, zero: bool) -> bool
     }
 }
 
-/// The cause of the first condition of a send of this kind that the record breaks.
+/// Returns the cause of the first condition of a send of this kind that the record breaks, or `None` if it breaks no
+/// condition.
 pub fn find_unfit(kind: Kind, desc: &SendDesc) -> Option<Unfit>
     ensures { result ≡ first_broken (conditions kind (send_record desc.now)) }
 {

@@ -21,7 +21,7 @@ const LIST: usize = 512 * 16;
 // that there may be.
 const OWNERS: usize = 512 * 4;
 
-const SLOTS: usize = 128 * 624;
+const SLOTS: usize = 128 * 616;
 
 // What the player takes at most: the room for a line of up to 33 bytes, before it grows and after.
 const LINE: usize = 256;

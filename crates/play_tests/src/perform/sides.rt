@@ -107,7 +107,7 @@ fn is_compared(rt: &impl Abort, alloc: Global, text: &[u8], room: usize) -> Resu
 fn compares_or_has_no_memory(rt: HostRuntime) -> Result<(), Fail> {
     let alloc = rt.alloc();
     let whole = printed(alloc, FIRST);
-    let booted = 512 * 4096 + 512 * 4 + 128 * 624;
+    let booted = 512 * 4096 + 512 * 4 + 128 * 616;
     for more in (0..16_384).step_by(1024) {
         assert!(rt; !is_compared(&rt, alloc, &whole, booted + more)?, "{more}");
     }

@@ -1,29 +1,29 @@
 -- SPDX-License-Identifier: MIT OR Apache-2.0
-use Rattle.std.proofs.Common.{subst, sym}
-use Rattle.std.specs.Io.Buffered.{reader_remaining}
-use Rattle.play_tasks.specs.Plays.{IsRecorded, PlayFails}
-use Rattle.play_report.specs.Failures.{failure_of}
-use Rattle.play_report.specs.declared.failure.Failure.TheVariants.{Read}
-use Rattle.play_tasks.specs.declared.task.Task.TheVariants.{Recorded}
+use Rattle.std.specs.declared.convert.Infallible.{Infallible}
+use Rattle.play_forms.specs.Listening.{Heard}
+use Rattle.play_forms.specs.Recorded.{RecordsLines}
+use Rattle.play_forms.specs.declared.recording.Recorder.{Recorder}
+use Rattle.play_forms.proofs.Replaying.{records_none}
 use Rattle.play_tasks.proofs.Plays.{passed, recorded_failed, recorded_whole}
 use Rattle.play_tasks.proofs.playing.record.Goals as goal
 
+pub play_trace-requires : goal.play_trace-requires
+play_trace-requires g c = records_none Infallible c.args.player.now.bench (g.W.Write.contents c.args.out.now)
+
 pub returns-in-Ok : goal.returns-in-Ok
 returns-in-Ok g c =
-    let held = g.W.Write.contents c.args.out.now in
-    let holds = g.W.Write.contents c.record.new.writer in
-    let whole = recorded_whole c.in-Ok.field-0 _ _ _ _ _ (reader_remaining g.R.Read.remaining c.record.new.reader) c.record.new.bytes.items c.in-Ok.ensures in
+    let heard : Heard (Recorder g.row.A.Denot) Infallible = λ start lines old new held holds result. RecordsLines start lines held holds result in
+    let streams = passed (g.R.Read.remaining c.args.trace.reader) (g.W.Write.contents c.args.out.now) (g.W.Write.contents c.play_trace.new.out) in
     record {
-      played = subst (λ had. IsRecorded c.args.player.now.bench (passed had held holds)) c.in_ok-reader.ensures.unread whole;
+      played = recorded_whole heard c.args.player.now.bench streams c.play_trace.new.line.items c.new-recorder.result c.play_trace.new.listener c.args.trace.path c.in-Ok.field-0 c.in-Ok.ensures (λ lines result said. said);
       failed = tt;
     }
 
 pub returns : goal.returns
 returns g c =
-    let start = c.args.player.now.bench in
-    let held = g.W.Write.contents c.args.out.now in
-    let holds = g.W.Write.contents c.record.new.writer in
-    let fault = c.of_line.ensures.0 in
-    let failed = recorded_failed start c.record.new.player.bench held holds _ (reader_remaining g.R.Read.remaining c.record.new.reader) c.record.new.bytes.items c.args.trace.path fault c.in-Err.error c.in-Err.ensures in
-    let from_reader = subst (λ had. PlayFails Recorded c.args.trace.path start (passed had held holds) (failure_of (Read c.args.trace.path) fault c.in-Err.error)) c.in_ok-reader.ensures.unread failed in
-    record { played = tt; failed = subst (PlayFails Recorded c.args.trace.path start (passed (g.R.Read.remaining c.args.trace.reader) held holds)) (sym c.of_line.ensures.1) from_reader }
+    let heard : Heard (Recorder g.row.A.Denot) Infallible = λ start lines old new held holds result. RecordsLines start lines held holds result in
+    let streams = passed (g.R.Read.remaining c.args.trace.reader) (g.W.Write.contents c.args.out.now) (g.W.Write.contents c.play_trace.new.out) in
+    record {
+      played = tt;
+      failed = recorded_failed heard c.args.player.now.bench streams c.play_trace.new.line.items c.new-recorder.result c.play_trace.new.listener c.args.trace.path c.in-Err.failure c.in-Err.ensures (λ lines result said. said);
+    }
