@@ -88,11 +88,12 @@ quietly() {
 # checkouts whose files differ have two names.
 name_of() { (cd "$top" && find "$@" -type f -print0 | LC_ALL=C sort -z | xargs -0 sha256sum) | sha256sum | cut -c -16; }
 
-# Where board/linux/kernel and board/secure/tf-a leave what they make, in the folder of a kind.
-linux_in() { echo "$1/$(name_of board/linux/{driver,kernel,kernel.config,partition/work.h})"; }
-tf_a_in() { echo "$1/$(name_of board/secure/{tf-a,tsp})"; }
+# Where board/linux/kernel, board/secure/tf-a and board/secure/optee/build leave what they make.
+linux_in() { echo "$1/$(name_of board/linux/{driver,kernel,kernel.config,optee.config,partition/work.h})"; }
+tf_a_in() { echo "$1/$(name_of board/secure/{tf-a,tsp,manager.dts,packages.dts})"; }
+optee_in() { echo "$1/$(name_of board/secure/optee)"; }
 
-# Where both have their sources, which board/linux/run.sh and board/secure/run.sh share.
+# The folder for their sources and builds, which board/linux/run.sh and board/secure/run.sh share.
 default_work=${TMPDIR:-/tmp}/gorseplumb-boards
 
 # Installs Debian's packages: install_packages PACKAGE..
@@ -106,6 +107,37 @@ install_packages() {
 apt_in() {
     "$2" -o "Dir::Etc::SourceList=$1/sources.list" -o Dir::Etc::SourceParts=/dev/null -o "Dir::State::Lists=$1/lists" -o "Dir::Cache=$1/cache" \
         -o APT::Sandbox::User=root "${@:3}"
+}
+
+# Debian's keys, by which apt checks what scripts fetch.
+keyring=/usr/share/keyrings/debian-archive-keyring.gpg
+
+# Sets `mirror` to Debian's mirror that this machine's apt has.
+find_mirror() {
+    mirror=$(apt-get indextargets --format '$(REPO_URI)' 'Identifier: Packages' 'Origin: Debian' 'Label: Debian' | sed -n 1p)
+    [[ $mirror ]] || fail "apt knows no mirror of Debian's: \`apt-get update\` has it known"
+}
+
+# Makes the list FOLDER/sources.list of Debian's sources in suites, for apt_in: list_sources FOLDER SUITE..
+list_sources() {
+    mkdir -p "$1"/{lists,cache}
+    find_mirror
+    printf "deb-src [signed-by=$keyring] $mirror %s main\n" "${@:2}" >"$1/sources.list"
+}
+
+# Prints the version of a package to take: the wanted one, or the newest if apt does not have the wanted one, and then it says so. The last words are
+# apt_in or a function that calls it: choose_version PACKAGE WANTED APT..
+choose_version() {
+    local versions
+    versions=$("${@:3}" apt-cache madison "$1" | awk '{ print $3 }' | sort -Vu)
+    [[ $versions ]] || fail "apt has no $1"
+    if grep -qxF "$2" <<<"$versions"; then
+        echo "$2"
+        return
+    fi
+    versions=$(tail -n 1 <<<"$versions")
+    echo "$me: apt has no $1 $2, so this takes $versions" >&2
+    echo "$versions"
 }
 
 # Whether commands are there, of packages that --install installs: needs "PACKAGE.." COMMAND..

@@ -65,10 +65,18 @@ bool take_word(const char **at, const char *word) {
     return true;
 }
 
-/* PSCI's SYSTEM_OFF, which QEMU itself answers. */
+/* Turns the board off. The normal world and a firmware at EL2 do so by PSCI's SYSTEM_OFF. The secure world cannot, and uses semihosting's SYS_EXIT, which
+ * run.sh has QEMU serve. */
 static _Noreturn void turn_off(void) {
+#if SECURE
+    static const uint64_t application_exit[2] = {0x20026, 0};
+    register uint64_t operation __asm__("x0") = 0x18;
+    register const uint64_t *reason __asm__("x1") = application_exit;
+    __asm__ volatile("hlt #0xf000" : "+r"(operation) : "r"(reason) : "memory");
+#else
     register uint64_t function __asm__("x0") = 0x84000008;
     __asm__ volatile("smc #0" : "+r"(function) : : "x1", "x2", "x3", "memory");
+#endif
     for (;;) __asm__ volatile("wfe");
 }
 

@@ -35,16 +35,26 @@ static void write_device(uint64_t address, unsigned size, uint64_t value) {
     }
 }
 
+uint64_t read_register(const struct context *context, uint64_t syndrome) {
+    unsigned number = REGISTER_OF(syndrome);
+    return number == ZERO_REGISTER ? 0 : context->x[number];
+}
+
+void write_register(struct context *context, uint64_t syndrome, uint64_t value) {
+    unsigned number = REGISTER_OF(syndrome);
+    if (number != ZERO_REGISTER) context->x[number] = value;
+}
+
 uint64_t do_access(struct context *context, uint64_t syndrome, uint64_t address) {
-    unsigned size = size_of(syndrome), number = REGISTER_OF(syndrome);
-    uint64_t value = 0;
+    unsigned size = size_of(syndrome);
+    uint64_t value;
     if (IS_SIGNED(syndrome)) stop("a device is read with a sign");
     if (is_write(syndrome)) {
-        if (number != ZERO_REGISTER) value = context->x[number];
+        value = read_register(context, syndrome);
         write_device(address, size, value);
     } else {
         value = read_device(address, size);
-        if (number != ZERO_REGISTER) context->x[number] = value;
+        write_register(context, syndrome, value);
     }
     context->pc += 4;
     return value;

@@ -12,6 +12,10 @@ static inline bool is_described(uint64_t syndrome) { return class_of(syndrome) =
 static inline unsigned size_of(uint64_t syndrome) { return 1u << (syndrome >> 22 & 3); }
 static inline bool is_write(uint64_t syndrome) { return (syndrome >> 6 & 1) != 0; }
 
+/* The register that a described access stores or loads. Register 31 is the zero register. */
+uint64_t read_register(const struct context *context, uint64_t syndrome);
+void write_register(struct context *context, uint64_t syndrome, uint64_t value);
+
 /* Does one that is described, which ends its instruction: the word that was stored, or loaded. */
 uint64_t do_access(struct context *context, uint64_t syndrome, uint64_t address);
 

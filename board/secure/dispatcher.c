@@ -1,5 +1,5 @@
 /* SPDX-License-Identifier: MIT OR Apache-2.0 */
-/* What TF-A's dispatcher hands the manager: calls of the normal world, and messages of its own (TF-A 2.8, services/std_svc/spmd). */
+/* What TF-A's dispatcher hands the manager: calls of the normal world, and messages of its own (TF-A, services/std_svc/spmd). */
 #include "calls.h"
 #include "secure.h"
 #include "text.h"

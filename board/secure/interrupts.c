@@ -26,6 +26,7 @@ void begin_interrupts(void) {
 }
 
 bool is_secure_due(void) { return read_isr_el1() & IRQ; }
+bool is_normal_due(void) { return read_isr_el1() & FIQ; }
 
 /* How the normal world's timers are set: the virtual and the physical one of EL1, and the physical one of EL2. Of a control ISTATUS is left out, which
  * the timer changes itself. */

@@ -47,13 +47,11 @@ static void place_images(void) {
 static void place_images(void) {}
 #endif
 
-/* Each partition runs once before the normal world does, for what it has to do at its start: by a call in the name of that. */
+/* Each partition runs once before the normal world does, for what it has to do at its start. */
 static void run_first(void) {
     for (uint32_t i = 1; i < board.count; i++) {
-        uint64_t *x = normal_world(&board)->context.x;
-        memcpy(x, (uint64_t[8]){FFA_RUN, (uint64_t)identifier_of(i) << 16}, 8 * sizeof *x);
-        serve_call_of_normal_world(&board);
-        if ((uint32_t)x[0] != FFA_MSG_WAIT) stop("a partition doesn't come to wait");
+        serve_first_run(&board, i);
+        if ((uint32_t)normal_world(&board)->context.x[0] != FFA_MSG_WAIT) stop("a partition doesn't come to wait");
     }
 }
 

@@ -1,35 +1,45 @@
 /* SPDX-License-Identifier: MIT OR Apache-2.0 */
 /* Calls, and the partitions at S-EL1 that serve them. */
+#include "bytes.h"
 #include "calls.h"
 #include "el2.h"
 #include "guest.h"
 #include "lock.h"
 #include "processor.h"
 #include "secure.h"
+#include "stand_in.h"
 #include "tables.h"
 #include "text.h"
 
 SYSTEM_REGISTER(cnthctl_el2)
 SYSTEM_REGISTER(cptr_el2)
 SYSTEM_REGISTER(hpfar_el2)
+SYSTEM_REGISTER(vmpidr_el2)
 
-/* HCR_EL2 (DDI 0487) while a partition runs. TF-A's test partition has a translation of its own, so DC is 0. Interrupts go to EL2, so the registers
- * of the interrupt controller's processor interface that a partition reaches are virtual ones, which nothing signals. */
-#ifndef FOR_TSP
-#define FOR_TSP 0
+/* With 1 a partition leaves by itself if an interrupt of the normal world is pending (DEN0077A, managed exit): it gets a virtual FIQ, and answers its
+ * request with a response that says so. With 0 the interrupt stops the partition at once. */
+#ifndef MANAGED
+#define MANAGED 0
 #endif
-#define PARTITION_HCR (HCR_VM | HCR_TSC | HCR_RW | HCR_INTERRUPTS | HCR_WAITS | (FOR_TSP ? 0 : HCR_DC))
+#define HCR_VF (UINT64_C(1) << 6)
+
+/* HCR_EL2 (DDI 0487) while a partition runs. DC is 0 if the partition has a translation of its own. Interrupts go to EL2, so the registers of the
+ * interrupt controller's processor interface that a partition reaches are virtual ones, and only VF signals anything there. */
+static uint64_t partition_hcr(void) { return HCR_VM | HCR_TSC | HCR_RW | HCR_INTERRUPTS | HCR_WAITS | (has_stage_1 ? 0 : HCR_DC); }
+
+/* VMPIDR_EL2: the number 0 for a partition's one execution context, on whatever processor it runs. */
+#define FIRST_CONTEXT (UINT64_C(1) << 31)
 
 /* CNTHCTL_EL2: EL1 may read the counter (EL1PCTEN), and use no physical timer. */
 #define COUNTER 1
 
-/* CPTR_EL2: vector registers trap (TFP) but while a partition runs, so that an instruction of the firmware's that names one ends the run. */
+/* CPTR_EL2: vector registers trap (TFP), except while a partition runs. So an instruction of the firmware that names one ends the run. */
 #define VECTORS_TRAP UINT64_C(0x37FF)
 #define VECTORS_DO_NOT UINT64_C(0x33FF)
 
 #define CLASS_WAIT 0x01 /* WFI or WFE */
 
-/* It stands round all that the core and this firmware have of the machine. A partition runs without it. */
+/* The lock around all that the library and this firmware do with the machine. A partition runs without it. */
 static uint32_t lock;
 
 static uint64_t calls;
@@ -37,7 +47,8 @@ static uint64_t calls;
 uint64_t all_calls(void) { return calls; }
 
 void begin_partitions(void) {
-    begin_el2(PARTITION_HCR);
+    begin_el2(partition_hcr());
+    write_vmpidr_el2(FIRST_CONTEXT);
     write_cnthctl_el2(COUNTER);
     write_cptr_el2(VECTORS_TRAP);
     DO("isb");
@@ -70,8 +81,9 @@ void end_interrupt(struct board *board, const struct gorseplumb_outcome *outcome
 
 void serve_trap(struct board *board) {
     struct context *context = &running(board)->context;
-    if (!is_ffa((uint32_t)context->x[0])) stop("a partition made a call that isn't FF-A's");
-    if (!serve_beside(context)) serve_call(board);
+    if (serve_beside(context)) return;
+    if (!is_ffa((uint32_t)context->x[0])) stop("a partition made a call that is not of FF-A");
+    serve_call(board);
 }
 
 static uint64_t address_of_fault(void) { return read_hpfar_el2() >> 4 << 12 | (read_far_el2() & 0xFFF); }
@@ -88,7 +100,7 @@ static void serve(struct board *board, uint64_t syndrome) {
     struct context *context = &running(board)->context;
     switch (class_of(syndrome)) {
     case CLASS_SMC:
-        context->pc += 4; /* one that is trapped is at the program counter still */
+        context->pc += 4; /* the program counter of a trapped SMC is the SMC's own */
         serve_trap(board);
         break;
     case CLASS_HVC:
@@ -107,16 +119,26 @@ static void serve(struct board *board, uint64_t syndrome) {
     }
 }
 
-/* What is due of the normal world stops the partition, and stays due for that to take. */
-static void tell_interrupt(struct board *board) {
+/* The partition gets a virtual FIQ, and no other interrupt until the normal world runs. */
+static void ask_to_leave(void) {
+    let_nothing_through();
+    write_hcr_el2(partition_hcr() | HCR_VF);
+    DO("isb");
+}
+
+/* An interrupt of the normal world stops the partition or has it leave. It stays pending, for the normal world to take. A partition that runs for the
+ * first time has no request to answer, so it is always stopped. */
+static void tell_interrupt(struct board *board, bool is_first) {
     if (is_secure_due()) stop("an interrupt of the secure world's own");
-    serve_interrupt(board);
+    if (MANAGED && !is_first) ask_to_leave();
+    else serve_interrupt(board);
 }
 
 /* Partitions run until the normal world does, on the processor that called. */
-static void run_partitions(struct board *board) {
+static void run_partitions(struct board *board, bool is_first) {
     struct timers of_normal_world;
     struct vectors vectors;
+    note_run(true, normal_world(board)->context.x);
     note_timers(&of_normal_world);
     if (is_masked()) let_nothing_through();
     write_cptr_el2(VECTORS_DO_NOT);
@@ -130,18 +152,31 @@ static void run_partitions(struct board *board) {
         bool interrupted = enter(context);
         has_processor(FIRMWARE);
         take_lock(&lock);
-        if (interrupted) tell_interrupt(board);
+        if (interrupted) tell_interrupt(board, is_first);
         else serve(board, read_esr_el2());
     }
+    if (MANAGED) write_hcr_el2(partition_hcr());
     give_vectors(&vectors);
     write_cptr_el2(VECTORS_TRAP);
     put_back(&of_normal_world);
     DO("isb");
+    note_run(false, normal_world(board)->context.x);
+}
+
+void serve_first_run(struct board *board, uint32_t place) {
+    uint64_t *x = normal_world(board)->context.x, *of_partition = board->endpoints[place].context.x, information = of_partition[0];
+    memcpy(x, (uint64_t[8]){FFA_RUN, (uint64_t)identifier_of(place) << 16}, 8 * sizeof *x);
+    take_lock(&lock);
+    serve_call(board);
+    if (information != 0) memcpy(of_partition, (uint64_t[8]){information}, 8 * sizeof *x);
+    if (running_place(board) != 0) run_partitions(board, true);
+    release_lock(&lock);
 }
 
 void serve_call_of_normal_world(struct board *board) {
+    uint64_t *x = normal_world(board)->context.x;
     take_lock(&lock);
-    if (!serve_feature(&normal_world(board)->context)) serve_call(board);
-    if (running_place(board) != 0) run_partitions(board);
+    if (admit_call(x, &lock) && !serve_feature(&normal_world(board)->context)) serve_call(board);
+    if (running_place(board) != 0) run_partitions(board, false);
     release_lock(&lock);
 }

@@ -1,38 +1,43 @@
 /* SPDX-License-Identifier: MIT OR Apache-2.0 */
-/* The core as the manager of the secure world that TF-A boots: the firmware is at S-EL2, partitions are at S-EL1, and the normal world is behind
- * TF-A's dispatcher at EL3. What board/ and board/linux have of the processor and of the core's answers is used as it is. */
+/* The firmware of a secure world that TF-A boots. It is at S-EL2, partitions are at S-EL1, and TF-A's dispatcher at EL3 passes calls of the normal world.
+ * It uses files of board/ and board/linux for the processor and for the library's answers. */
 #ifndef BOARD_SECURE_SECURE_H
 #define BOARD_SECURE_SECURE_H
 
 #include "board.h"
 
-/* In the image: the manifest, and the list of endpoints as place.c of board/linux wants it. */
+/* The manifest, and the list of endpoints that place.c of board/linux reads. images.S has both. */
 extern const char manifest_text[], endpoint_list[];
 
 /* Makes this processor ready for partitions. */
 void begin_partitions(void);
 
-/* A call of the normal world's on this processor is served, x0 to x7 of its context, which are its answer then. A partition works for it meanwhile,
- * and others for other processors. What is due of the normal world stops it, and then the answer is FFA_INTERRUPT. */
+/* Serves a call that the normal world made on this processor: x0 to x7 of its context, which are the answer when this returns. A partition may work for
+ * the call. If an interrupt of the normal world stops the partition, the answer is FFA_INTERRUPT. */
 void serve_call_of_normal_world(struct board *board);
 
-/* interrupts.c: this processor's are made ready. Is one due of the secure world's own? */
+/* Runs the partition at a place for the first time, by FFA_RUN in the name of the normal world, and returns when the partition waits. If the list of
+ * endpoints has an address of boot information, the partition begins with it in x0, and not with FFA_RUN (DEN0077A, 5.4). */
+void serve_first_run(struct board *board, uint32_t place);
+
+/* interrupts.c: makes this processor ready for interrupts; returns whether an interrupt of the secure world, or of the normal world, is pending. */
 void begin_interrupts(void);
 bool is_secure_due(void);
+bool is_normal_due(void);
 
-/* The normal world calls: whether something is due that it hasn't taken is noted. Where it hasn't so often in a row, and set no timer anew meanwhile, it
- * masks its interrupts there, which nobody here can see, and would be interrupted again and again: nothing is let through then while a partition works
- * for it. */
+/* note_due notes, at a call of the normal world, whether an interrupt is pending that the normal world has not taken. is_masked returns whether the normal
+ * world seems to mask its interrupts on this processor, which S-EL2 cannot see: some calls in a row came with an interrupt pending, and no timer was set
+ * again. No interrupt may then stop a partition, because it would stop the partition again and again. */
 void note_due(void);
 bool is_masked(void);
 
-/* Gives this processor to the normal world, and serves it from then on. The first one says where others begin. */
+/* Gives this processor to the normal world, and serves its calls from then on. The first processor registers where the others begin. */
 _Noreturn void serve_normal_world(struct board *board, bool first);
 
-/* x0 to x7 go to the dispatcher; then they are its next call. */
+/* Passes x0 to x17 to the dispatcher. When this returns, they are the next call. */
 void to_normal_world(uint64_t *x);
 
-/* Vector registers, which are the normal world's but while a partition runs: the firmware uses general registers alone. */
+/* All vector registers. They are the normal world's, except while a partition runs. The firmware uses only general registers. */
 struct vectors {
     uint64_t fpcr, fpsr;
     uint64_t q[64];
@@ -40,16 +45,11 @@ struct vectors {
 void take_vectors(struct vectors *vectors);
 void give_vectors(const struct vectors *vectors);
 
-/* What TF-A's test partition asks of its manager and the core doesn't do: a call that is answered beside it, and the line to which the partition
- * prints. Each says whether it was that, and does nothing in a firmware for other partitions. */
-bool serve_beside(struct context *partition);
-bool serve_line(struct context *partition, uint64_t syndrome, uint64_t address);
-
-/* Who has the processor from here on, in a firmware that measures. */
+/* Says who has the processor from here on, in a firmware that measures. */
 enum having { NORMAL_WORLD, FIRMWARE, CORE, PARTITION, HAVING };
 void has_processor(enum having next);
 
-/* A call of the normal world's may be one by which that begins to measure, or ends: how long each had it meanwhile is printed. */
+/* If a call begins or ends a measurement, prints how long each had the processor since the last one. */
 void measure_call(const struct gorseplumb_registers *registers);
 
 #endif

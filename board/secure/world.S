@@ -3,22 +3,29 @@
 #include "layout.h"
 #include "registers.h"
 
-#define FRAME (KEPT_GENERAL_BYTES + 16)
+/* The registers that the dispatcher passes between the worlds. TF-A 2.12 passes x0 to x17, and leaves it to the manager to keep x8 to x17 of the normal
+ * world (services/std_svc/spmd). TF-A 2.8 passes x0 to x7, and keeps the others of each world itself. */
+        .macro  passed operation, base
+        of_call \operation, \base
+        \operation     x8, x9, [\base, #64]
+        \operation     x10, x11, [\base, #80]
+        \operation     x12, x13, [\base, #96]
+        \operation     x14, x15, [\base, #112]
+        \operation     x16, x17, [\base, #128]
+        .endm
 
-/* void to_normal_world(uint64_t *x): TF-A keeps x8 to x30 of both worlds, and neither it nor the firmware touches vector registers. */
+/* void to_normal_world(uint64_t x[18]): TF-A keeps x18 to x30 of both worlds, and neither it nor the firmware touches vector registers. */
         .section .text, "ax"
         .global to_normal_world
 to_normal_world:
-        sub     sp, sp, #FRAME
+        sub     sp, sp, #KEPT_GENERAL_BYTES
         kept_general stp
-        str     x0, [sp, #KEPT_GENERAL_BYTES]
-        mov     x8, x0
-        of_call ldp, x8
+        mov     x19, x0
+        passed  ldp, x19
         smc     #0
-        ldr     x8, [sp, #KEPT_GENERAL_BYTES]
-        of_call stp, x8
+        passed  stp, x19
         kept_general ldp
-        add     sp, sp, #FRAME
+        add     sp, sp, #KEPT_GENERAL_BYTES
         ret
 
 /* void take_vectors(struct vectors *vectors), void give_vectors(const struct vectors *vectors): all of them out of the processor, and into it. */

@@ -89,12 +89,9 @@ static void be_kept_out(void) {
     try_messages();
     want("a partition's page is out of reach", probe(SMALL_PARTITION) >> 63 == 1);
     want("the tables are out of reach", probe(TABLES_AT) >> 63 == 1);
-    if (failed) stop("something came out otherwise");
-    end_well();
 }
 
-void normal_world(void) {
-    if (SMALL) be_kept_out();
+static void try_all(void) {
     try_setup();
     if (MEASURE) {
         measure();
@@ -106,6 +103,12 @@ void normal_world(void) {
         if (TWO) try_two();
     }
     want("buffers are unmapped", is_success(ask(FFA_RXTX_UNMAP, 0, 0, 0)));
+}
+
+void normal_world(void) {
+    if (SMALL) be_kept_out();
+    else if (OF_OPTEE) try_optee();
+    else try_all();
     if (failed) stop("something came out otherwise");
     end_well();
 }

@@ -1,6 +1,6 @@
 /* SPDX-License-Identifier: MIT OR Apache-2.0 */
 /* The normal world's program. It calls the manager by SMC, through TF-A's dispatcher, prints what it is answered, and says `ok` or `FAILED` of what
- * has to hold. Its partner is the partition of board/linux/partition, or, with OF_TSP, TF-A's test partition. */
+ * has to hold. Its partner is the partition of board/linux/partition, or, with OF_TSP, TF-A's test partition, or, with OF_OPTEE, OP-TEE. */
 #ifndef BOARD_SECURE_NORMAL_H
 #define BOARD_SECURE_NORMAL_H
 
@@ -11,6 +11,9 @@
 
 #ifndef OF_TSP
 #define OF_TSP 0
+#endif
+#ifndef OF_OPTEE
+#define OF_OPTEE 0
 #endif
 
 /* What TSP knows (TF-A 2.8, bl32/tsp/tsp_ffa_main.c): it answers x4; it retrieves a share of the handle x4, adds 1 to its first byte, relinquishes,
@@ -76,6 +79,7 @@ void try_interrupts(void);
 void try_memory(void);
 void try_reach(void);
 void try_two(void);
+void try_optee(void);
 void measure(void);
 
 #endif
