@@ -67,12 +67,13 @@ fn is_within(
     goes_on(rt, alloc, player, call)?;
     let steps = recorded(player).saturating_sub(before);
     holds_at(rt, steps <= bound, &call);
-    holds_at(rt, bound <= 2 * steps, &call);
+    holds_at(rt, bound.saturating_sub(steps) <= steps, &call);
     Ok(())
 }
 
 // The address of the page that a range has: the first 31 ranges are in a block each, and the others in the first block.
-fn address_of(range: u32) -> u32 {
+fn address_of(range: u8) -> u32 {
+    let range = u32::from(range);
     if range < BLOCKS - 1 {
         return 0x4020_0000 + 0x20_0000 * range + 0x5000;
     }
@@ -82,8 +83,8 @@ fn address_of(range: u32) -> u32 {
 // The lines that store the ranges of the lend.
 fn ranges(alloc: Global) -> Result<String, Fail> {
     let mut lines = String::new(alloc);
-    for range in 0..MOST_RANGES as u32 {
-        let place = 0x4002_E050 + 16 * range;
+    for range in 0..MOST_RANGES as u8 {
+        let place = 0x4002_E050 + 16 * u32::from(range);
         let address = address_of(range);
         writeln!(lines, "store {place:08X} {address:016X} -> done")?;
         let pages = place + 8;
