@@ -34,6 +34,26 @@ trap 'exit 130' INT
 
 is_count() { [[ $1 =~ ^(0|[1-9][0-9]{0,8})$ ]]; }
 
+# Takes the option that the next argument is, if it is one that all scripts of board/*/ have, else refuses the argument: take_option ARGUMENT..
+# It sets `taken` to how many arguments the option is.
+take_option() {
+    taken=1
+    case $1 in
+        --install) install=yes ;;
+        --build-only) only=yes ;;
+        --work | --keep | --jobs) take_value "$@" ;;
+        --help) usage && exit 0 ;;
+        *) refuse "there is no argument $1" ;;
+    esac
+}
+
+# Sets the variable that an option names to the argument after it: take_value OPTION VALUE
+take_value() {
+    [[ ${2:-} ]] || refuse "$1 needs a value"
+    declare -g "${1#--}=$2"
+    taken=2
+}
+
 # A number of processors, of --jobs: check_jobs NUMBER
 check_jobs() { [[ $1 =~ ^[1-9][0-9]{0,3}$ ]] || refuse "--jobs $1: must be a number of processors from 1 to 9999"; }
 

@@ -50,20 +50,17 @@ HELP
 
 keep='' seed=1 operations=10000 rounds=60 install='' only='' breaks=() names=() manifests=() traces=()
 while (($#)); do
+    taken=1
     case $1 in
         --install) install=yes ;;
         --build-only) only=yes ;;
-        --keep | --seed | --operations | --rounds)
-            [[ ${2:-} ]] || refuse "$1 needs a value"
-            declare "${1#--}=$2"
-            shift
-            ;;
+        --keep | --seed | --operations | --rounds) take_value "$@" ;;
         --break-root | --break-vectors | --break-settling | --break-zeros-first | --break-zeros-last | --break-resumed | --break-untold) breaks+=("${1#--break-}") ;;
         --help) usage && exit 0 ;;
         -*) refuse "there is no flag $1" ;;
         *) names+=("$1") ;;
     esac
-    shift
+    shift "$taken"
 done
 is_count "$seed" || refuse "--seed $seed: must be a number from 0 to 999999999"
 is_count "$operations" || refuse "--operations $operations: must be a number from 0 to 999999999"

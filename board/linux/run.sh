@@ -47,19 +47,13 @@ HELP
 
 install='' only='' kernel=4k limits='' several='' rounds=10000 work=$default_work keep='' jobs=$(nproc)
 while (($#)); do
+    taken=1
     case $1 in
-        --install) install=yes ;;
-        --build-only) only=yes ;;
         --several) several=yes ;;
-        --kernel | --limits | --rounds | --work | --keep | --jobs)
-            [[ ${2:-} ]] || refuse "$1 needs a value"
-            declare "${1#--}=$2"
-            shift
-            ;;
-        --help) usage && exit 0 ;;
-        *) refuse "there is no argument $1" ;;
+        --kernel | --limits | --rounds) take_value "$@" ;;
+        *) take_option "$@" ;;
     esac
-    shift
+    shift "$taken"
 done
 [[ $kernel =~ ^(4k|16k|64k|6\.1|newest|debian|debian-cloud)$ ]] || refuse "--kernel $kernel: must be 4k, 16k, 64k, 6.1, newest, debian or debian-cloud"
 [[ $kernel == 4k || -z $limits ]] || refuse "--limits can be used only with the kernel 4k"

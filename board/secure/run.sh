@@ -64,30 +64,21 @@ HELP
 
 install='' only='' work=$default_work keep='' jobs=$(nproc) tf_a='' managed='' xtest='' runs=()
 while (($#)); do
+    taken=1
     case $1 in
-        --install) install=yes ;;
-        --build-only) only=yes ;;
-        --work | --keep | --jobs)
-            [[ ${2:-} ]] || refuse "$1 needs a value"
-            declare "${1#--}=$2"
-            shift
-            ;;
         --xtest)
             [[ ${2:-} =~ ^[-a-z0-9_\ ]+$ ]] || refuse "--xtest needs words of small letters, digits, - and _"
-            xtest=$2
-            shift
+            take_value "$@"
             ;;
         --tf-a)
             [[ ${2:-} == 2.8 || ${2:-} == 2.12 ]] || refuse "--tf-a ${2:-}: must be 2.8 or 2.12"
-            tf_a=$2
-            shift
+            tf_a=$2 taken=2
             ;;
         --managed) managed=-DMANAGED=1 ;;
         plain | version | two | tsp | small | linux | measure | optee | optee-two | optee-calls) runs+=("$1") ;;
-        --help) usage && exit 0 ;;
-        *) refuse "there is no argument $1" ;;
+        *) take_option "$@" ;;
     esac
-    shift
+    shift "$taken"
 done
 ((${#runs[@]})) || runs=("${all[@]}")
 of_optee=''

@@ -37,18 +37,8 @@ HELP
 
 install='' only='' work=$default_work keep='' jobs=$(nproc)
 while (($#)); do
-    case $1 in
-        --install) install=yes ;;
-        --build-only) only=yes ;;
-        --work | --keep | --jobs)
-            [[ ${2:-} ]] || refuse "$1 needs a value"
-            declare "${1#--}=$2"
-            shift
-            ;;
-        --help) usage && exit 0 ;;
-        *) refuse "there is no argument $1" ;;
-    esac
-    shift
+    take_option "$@"
+    shift "$taken"
 done
 check_jobs "$jobs"
 check_folder "$work"
