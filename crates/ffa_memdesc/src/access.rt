@@ -1,5 +1,5 @@
 // SPDX-License-Identifier: MIT OR Apache-2.0
-//! Access descriptors.
+//! Access descriptors of memory transactions.
 
 ghost use Rattle.std.specs.Prelude.{◌≡◌, ◌+◌, ◌≤◌, length};
 ghost use Rattle.ffa_model.specs.DescriptorPlaces.{accesses_size, in_version, is_access_rest_zero};
@@ -9,27 +9,27 @@ ghost use Rattle.ffa_memdesc.specs.Reading.{access_in};
 use crate::bytes::{Bytes, read_u16, read_u32, read_u64};
 use ffa_model::{EndpointId, Version};
 
-/// An access descriptor as it stands in the bytes.
+/// The fields of an access descriptor, as the bytes have them.
 #[derive(Clone, Copy, PartialEq, Eq)]
 pub struct Access {
     pub endpoint: EndpointId,
     pub permissions: u8,
     pub flags: u8,
-    /// The place of the composite.
+    /// The offset of the composite in the descriptor, in bytes.
     pub composite: u32,
-    /// Whether the bytes behind that are 0.
+    /// Whether all bytes after the offset of the composite are 0.
     pub is_rest_zero: bool,
 }
 
 impl Access {
-    /// The data permission, bits 1:0.
+    /// Returns the data permission, which is bits 1:0 of the permissions.
     pub fn data_code(&self) -> u8
         ensures { result ≡ bits 1 0 self.now.permissions }
     {
         self.permissions & 3
     }
 
-    /// The instruction permission, bits 3:2.
+    /// Returns the instruction permission, which is bits 3:2 of the permissions.
     pub fn instruction_code(&self) -> u8
         ensures { result ≡ bits 3 2 self.now.permissions }
     {
@@ -37,7 +37,8 @@ impl Access {
     }
 }
 
-/// Whether the bytes of the access descriptor at this place that say nothing are 0.
+/// Whether all bytes after the composite's offset are 0, in the access descriptor at this place. These are 8 bytes, and
+/// 24 bytes in the layout of FF-A 1.2.
 fn is_rest_zero<B: Bytes>(bytes: &B, version: Version, at: usize) -> bool
     requires { at + accesses_size version 1 ≤ length (B.bytes bytes.now) }
     ensures { result ≡ is_access_rest_zero version (B.bytes bytes.now) at }
@@ -54,7 +55,7 @@ fn is_rest_zero<B: Bytes>(bytes: &B, version: Version, at: usize) -> bool
     }
 }
 
-/// The access descriptor at this place.
+/// Returns the fields of the access descriptor at this place, in the layout of this version.
 pub fn read_access<B: Bytes>(bytes: &B, version: Version, at: usize) -> Access
     requires { at + accesses_size version 1 ≤ length (B.bytes bytes.now) }
     ensures { result ≡ access_in (in_version version (B.bytes bytes.now)) at }

@@ -1,20 +1,20 @@
 // SPDX-License-Identifier: MIT OR Apache-2.0
-//! Bytes that are read in place, and the numbers in them.
+//! Bytes that the library reads in place, and the numbers in them.
 
 ghost use Rattle.std.specs.Prelude.{◌≡◌, ℕ, ◌+◌, ◌<◌, ◌≤◌, List, length};
 ghost use Rattle.ffa_model.specs.DescriptorPlaces.{byte, u16_at, u32_at, u64_at};
 
 use byteorder::{ByteOrder, LittleEndian};
 
-/// Bytes that are read one by one, wherever they lie.
+/// Bytes that a reader gets one by one, without a copy of them all.
 pub trait Bytes {
     ghost bytes: { Self → List ℕ };
 
-    /// How many bytes there are.
+    /// Returns the number of bytes.
     fn len(&self) -> usize
         ensures { result ≡ length (bytes self.now) };
 
-    /// The byte at a place, counted from 0.
+    /// Returns the byte at a place, counted from 0.
     fn at(&self, place: usize) -> u8
         requires { place < length (bytes self.now) }
         ensures { result ≡ byte (bytes self.now) place };
@@ -32,7 +32,7 @@ impl<'a> Bytes for &'a [u8] {
     }
 }
 
-/// The number in the two bytes from this place on, the low one first.
+/// Returns the number in the two bytes from this place on. The low byte is first.
 pub fn read_u16<B: Bytes>(bytes: &B, place: usize) -> u16
     requires { place + 2 ≤ length (B.bytes bytes.now) }
     ensures { result ≡ u16_at (B.bytes bytes.now) place }
@@ -42,7 +42,7 @@ pub fn read_u16<B: Bytes>(bytes: &B, place: usize) -> u16
     LittleEndian::read_u16(&[bytes.at(place), bytes.at(place + 1)])
 }
 
-/// The number in the four bytes from this place on, the lowest first.
+/// Returns the number in the four bytes from this place on. The lowest byte is first.
 pub fn read_u32<B: Bytes>(bytes: &B, place: usize) -> u32
     requires { place + 4 ≤ length (B.bytes bytes.now) }
     ensures { result ≡ u32_at (B.bytes bytes.now) place }
@@ -57,7 +57,7 @@ pub fn read_u32<B: Bytes>(bytes: &B, place: usize) -> u32
     ])
 }
 
-/// The number in the eight bytes from this place on, the lowest first.
+/// Returns the number in the eight bytes from this place on. The lowest byte is first.
 pub fn read_u64<B: Bytes>(bytes: &B, place: usize) -> u64
     requires { place + 8 ≤ length (B.bytes bytes.now) }
     ensures { result ≡ u64_at (B.bytes bytes.now) place }

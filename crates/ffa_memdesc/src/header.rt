@@ -1,5 +1,5 @@
 // SPDX-License-Identifier: MIT OR Apache-2.0
-//! The transaction header, as it is read.
+//! The header of a transaction descriptor, and how the library reads it.
 
 ghost use Rattle.std.specs.Prelude.{◌≡◌, ◌+◌, ◌*◌, ◌≤◌, length, IfOk, OnOk};
 ghost use Rattle.std.specs.Option.{option_map};
@@ -12,16 +12,16 @@ ghost use Rattle.ffa_memdesc.specs.Reading.{header_in};
 use crate::bytes::{Bytes, read_u16, read_u32, read_u64};
 use ffa_model::{EndpointId, HeaderFlaw, Version};
 
-/// How many bytes a range has.
+/// The size of a range in a descriptor, in bytes.
 pub const RANGE_SIZE: u32 = 16;
 
-/// Normal memory, write-back, inner shareable.
+/// The memory attributes of normal memory that is write-back and inner shareable.
 pub const NORMAL_MEMORY: u16 = 0x2f;
 
-/// Beside it, that it is non-secure.
+/// Bit 6 of the memory attributes: the memory is non-secure (NS).
 pub const NON_SECURE: u16 = 1 << 6;
 
-/// What a header says, and where the access descriptors stand.
+/// The fields of a transaction header, with the number and the place of its access descriptors.
 #[derive(Clone, Copy, PartialEq, Eq)]
 pub struct Header {
     pub sender: EndpointId,
@@ -29,13 +29,13 @@ pub struct Header {
     pub flags: u32,
     pub handle: u64,
     pub tag: u64,
-    /// How many access descriptors there are.
+    /// The number of access descriptors.
     pub count: u32,
-    /// The place of the first.
+    /// The offset of the first access descriptor in the descriptor, in bytes.
     pub array: u32,
 }
 
-/// How many bytes a transaction header has.
+/// Returns the size of a transaction header in this version, in bytes.
 pub fn header_size(version: Version) -> u32
     ensures value { result ≡ header_size version }
     ensures least { 32 ≤ result }
@@ -47,7 +47,7 @@ pub fn header_size(version: Version) -> u32
     }
 }
 
-/// How many bytes so many access descriptors have.
+/// Returns the size of this number of access descriptors in this version, in bytes.
 pub fn accesses_size(version: Version, count: u32) -> u64
     ensures value { result ≡ accesses_size version count }
     ensures least { 16 * count ≤ result }
@@ -59,7 +59,8 @@ pub fn accesses_size(version: Version, count: u32) -> u64
     }
 }
 
-/// The size of an access descriptor as a header tells it; 0 where it doesn't.
+/// Returns the size of an access descriptor that a header of this version states, in bytes. The compact header does not
+/// state it: its bytes there are reserved, and the result is 0.
 pub fn told_access_size(version: Version) -> u32
     ensures { result ≡ told_access_size version }
 {
@@ -69,7 +70,8 @@ pub fn told_access_size(version: Version) -> u32
     }
 }
 
-/// The place of the first access descriptor.
+/// Returns the offset of the first access descriptor, in bytes. In the compact form it is 32. The other headers state
+/// it.
 pub fn read_array<B: Bytes>(bytes: &B, version: Version) -> u32
     requires { header_size version ≤ length (B.bytes bytes.now) }
     ensures { result ≡ array_in version (B.bytes bytes.now) }
@@ -80,7 +82,7 @@ pub fn read_array<B: Bytes>(bytes: &B, version: Version) -> u32
     }
 }
 
-/// Whether the reserved bytes at the header's end are 0.
+/// Whether the reserved bytes at the end of the header are 0.
 fn is_rest_zero<B: Bytes>(bytes: &B, version: Version) -> bool
     requires { header_size version ≤ length (B.bytes bytes.now) }
     ensures { result ≡ is_rest_zero version (B.bytes bytes.now) }
@@ -91,7 +93,8 @@ fn is_rest_zero<B: Bytes>(bytes: &B, version: Version) -> bool
     }
 }
 
-// The header in the form of a version. Its callers know which, so no place is asked for where it is inlined.
+// Reads the header in the form of a version, like `read_header`. Each caller passes a constant version. So where the
+// compiler inlines this function, the places of the fields are constants.
 #[inline(always)]
 #[tactic(auto, unfolding(ffa_model::specs::FirstFlaws::header_flaw))]
 fn read_in<B: Bytes>(bytes: &B, version: Version) -> Result<Header, HeaderFlaw>
@@ -134,7 +137,12 @@ fn read_in<B: Bytes>(bytes: &B, version: Version) -> Result<Header, HeaderFlaw>
     })
 }
 
-/// The header, where the bytes have one of this version: its access descriptors stand behind it and inside the bytes.
+/// Returns the header of a descriptor, if the bytes have a header in the form of this version. The access descriptors
+/// then begin after the header and end inside the bytes.
+///
+/// # Errors
+///
+/// The first condition of a header that the bytes break.
 #[inline(always)]
 pub fn read_header<B: Bytes>(bytes: &B, version: Version) -> Result<Header, HeaderFlaw>
     ensures whole { OnOk result (IsHeader (in_version version (B.bytes bytes.now))) }

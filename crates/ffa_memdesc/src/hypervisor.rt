@@ -1,5 +1,6 @@
 // SPDX-License-Identifier: MIT OR Apache-2.0
-//! The bytes by which a hypervisor asks for what it sent: a header with a handle, and nothing else.
+//! The descriptor of a hypervisor's retrieve, which requests what the hypervisor sent: a header with a handle, and no
+//! other fields (DEN0077A, 16).
 
 ghost use Rattle.std.specs.Prelude.{◌≡◌, ◌≤◌, ◌==◌, ◌&&◌, length, nat_le};
 ghost use Rattle.ffa_model.specs.DescriptorPlaces.{header_size, in_version, receiver_count, u64_at};
@@ -9,7 +10,7 @@ use crate::bytes::{Bytes, read_u32, read_u64};
 use crate::header::header_size;
 use ffa_model::Version;
 
-/// Whether the bytes are a header with no access descriptor.
+/// Whether the bytes have a whole header that counts no access descriptor.
 pub fn has_no_access<B: Bytes>(bytes: &B, version: Version) -> bool
     ensures { let b = in_version version (B.bytes bytes.now) in
         result ≡ (nat_le (header_size version) (length (B.bytes bytes.now)) && receiver_count b == 0) }
@@ -17,7 +18,7 @@ pub fn has_no_access<B: Bytes>(bytes: &B, version: Version) -> bool
     bytes.len() >= header_size(version) as usize && read_u32(bytes, 28) == 0
 }
 
-// Whether the header's bytes behind the first 32 are 0.
+// Whether all bytes of the header after the first 32 are 0.
 fn is_end_zero<B: Bytes>(bytes: &B, version: Version) -> bool
     requires { header_size version ≤ length (B.bytes bytes.now) }
     ensures { result ≡ is_end_zero version (B.bytes bytes.now) }
@@ -28,7 +29,7 @@ fn is_end_zero<B: Bytes>(bytes: &B, version: Version) -> bool
     }
 }
 
-/// The handle in a header, where all else in the header is 0.
+/// Returns the handle in a header, or `None` if another byte of the header is not 0.
 pub fn read_handle_alone<B: Bytes>(bytes: &B, version: Version) -> Option<u64>
     requires { header_size version ≤ length (B.bytes bytes.now) }
     ensures { result ≡ handle_alone (in_version version (B.bytes bytes.now)) }
@@ -42,7 +43,7 @@ pub fn read_handle_alone<B: Bytes>(bytes: &B, version: Version) -> Option<u64>
     }
 }
 
-/// The handle in a header, whatever else stands there.
+/// Returns the handle in a header. The other bytes of the header may have any values.
 pub fn handle_of_header<B: Bytes>(bytes: &B) -> u64
     requires { 16 ≤ length (B.bytes bytes.now) }
     ensures { result ≡ u64_at (B.bytes bytes.now) 8 }

@@ -1,5 +1,5 @@
 // SPDX-License-Identifier: MIT OR Apache-2.0
-//! Laws of the definitions.
+//! Laws of the definitions of descriptors.
 
 ghost use Rattle.std.specs.Prelude.{◌≡◌, ◌↔◌, ◌+◌, ◌≤◌, ℕ, List, Some, length};
 ghost use Rattle.ffa_model.specs.DescriptorPlaces.{Versioned, IsHeader, array_place, composite_place};
@@ -14,8 +14,8 @@ ghost use Rattle.ffa_model.specs.declared.descriptor.RelinquishDesc.{RelinquishD
 ghost use Rattle.ffa_model.specs.declared.manifest.Ffa.{Ffa};
 ghost use Rattle.ffa_model.specs.declared.rights.Kind.{Kind};
 
-/// A list of bytes fits at most one record of each relation, and the functions that compute a record give
-/// that one. Where bytes break a condition, they fit none.
+/// Proves that bytes fit at most one record of each of the relations `Send`, `Retrieve` and `Relinquish`. The functions
+/// `send_of`, `retrieve_of` and `relinquish_of` compute this record. Bytes that break a condition fit no record.
 pub fn one_record()
     ensures one_send { (ffa : Ffa) (kind : Kind) (b : Versioned) (r s : SendRecord) → Send ffa kind b r → Send ffa kind b s → r ≡ s }
     ensures one_retrieve { (ffa : Ffa) (e : ℕ) (b : Versioned) (r s : RetrieveDesc) → Retrieve ffa e b r → Retrieve ffa e b s → r ≡ s }
@@ -33,8 +33,9 @@ pub fn one_record()
     ensures relinquish { (b : List ℕ) (r : RelinquishDesc) → Relinquish b r ↔ (relinquish_of b ≡ Some r) }
 {}
 
-/// Where bytes have a header, the places that they tell are those of the access descriptors and, if the bytes
-/// go on so far, of the composite.
+/// Proves that the places which `told_array` and `told_composite` read from bytes are correct, if the bytes have a
+/// header. The first is the place of the access descriptors. The second is the place of the composite, if the bytes
+/// include the first 8 bytes of the first access descriptor.
 pub fn told_places()
     ensures array { (b : Versioned) → IsHeader b → told_array b ≡ array_place b }
     ensures composite { (b : Versioned) → IsHeader b → array_place b + 8 ≤ length b.bytes

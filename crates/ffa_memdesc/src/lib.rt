@@ -1,13 +1,13 @@
 // SPDX-License-Identifier: MIT OR Apache-2.0
-//! Reads descriptors of memory transactions, and writes the response of a retrieve (DEN0077A, 5.11, 16). It reads them
-//! in TX, and writes it into RX.
+//! Reads descriptors of memory transactions, and writes responses of retrieves (DEN0077A, 5.11, 16). The descriptors
+//! are in TX, and the responses are in RX.
 #![tactic(auto)]
 
-// What descriptors are read from and written into.
+// The bytes that readers read, and the numbers that writers put.
 mod bytes;
 pub mod put;
 
-// Their parts.
+// The parts of descriptors.
 mod access;
 mod header;
 mod names;
@@ -15,17 +15,17 @@ pub mod parts;
 mod ranges;
 mod receivers;
 
-// The descriptors, with the conditions that refuse them.
+// The descriptors, with the conditions that refuse bytes.
 mod hypervisor;
 mod relinquish;
 mod respond;
 mod retrieve;
 mod send;
 
-// That they say one thing.
+// Proofs that bytes fit at most one descriptor of a kind.
 mod laws;
 
-// Why bytes are no descriptor: for diagnostics alone.
+// The reasons why bytes are not a descriptor. They are for diagnostics only.
 mod reasons;
 
 pub use bytes::Bytes;

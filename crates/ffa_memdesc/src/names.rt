@@ -1,5 +1,5 @@
 // SPDX-License-Identifier: MIT OR Apache-2.0
-//! Whom the access descriptors of a retrieve name.
+//! The endpoints that the access descriptors of a retrieve name.
 
 ghost use Rattle.std.specs.Prelude.{◌≡◌, ℕ, ◌+◌, ◌≤◌, ◌<◌, ◌==◌, length};
 ghost use Rattle.std.specs.List.{list_all, list_any};
@@ -20,7 +20,8 @@ use crate::header::{Header, accesses_size, read_array};
 use crate::receivers::is_named;
 use ffa_model::{AccessFlaw, EndpointId, Ffa, Flaw, Receiver, Version};
 
-/// The endpoint that the access descriptor with this index names, of an array at this place.
+/// Returns the endpoint that the access descriptor with this index names. The array of access descriptors begins at
+/// this place.
 fn endpoint_named<B: Bytes>(bytes: &B, version: Version, array: u32, index: u32) -> EndpointId
     requires { array + accesses_size version (index + 1) ≤ length (B.bytes bytes.now) }
     ensures { result.0 ≡ named_after (in_version version (B.bytes bytes.now)) array index }
@@ -31,7 +32,7 @@ fn endpoint_named<B: Bytes>(bytes: &B, version: Version, array: u32, index: u32)
     EndpointId(read_u16(bytes, at))
 }
 
-/// Whether one of the first access descriptors names an endpoint.
+/// Whether one of the first `count` access descriptors names an endpoint.
 fn is_among_first<B: Bytes>(
     bytes: &B,
     version: Version,
@@ -51,7 +52,8 @@ fn is_among_first<B: Bytes>(
     false
 }
 
-/// The index of the first access descriptor that names an endpoint; 0 where none does.
+/// Returns the index of the first access descriptor that names an endpoint. If no access descriptor names it, returns
+/// 0.
 fn index_of<B: Bytes>(bytes: &B, version: Version, endpoint: EndpointId, header: &Header) -> u32
     requires some { 1 ≤ header.now.count }
     requires inside { header.now.array + accesses_size version header.now.count ≤ length (B.bytes bytes.now) }
@@ -67,7 +69,9 @@ fn index_of<B: Bytes>(bytes: &B, version: Version, endpoint: EndpointId, header:
     0
 }
 
-/// The index of the access descriptor that says what the caller asks for.
+/// Returns the index of the access descriptor that has the caller's request, counted from 0. In FF-A 1.1 it is 0. In
+/// FF-A 1.2 it is the index of the first access descriptor that names the caller. If no access descriptor names the
+/// caller, it is 0.
 pub fn own_index<B: Bytes>(
     bytes: &B,
     ffa: Ffa,
@@ -87,7 +91,10 @@ pub fn own_index<B: Bytes>(
     }
 }
 
-/// Whether the access descriptor with this index names a receiver, whom no earlier one names.
+/// Checks the access descriptor with this index as a name of a receiver. No earlier access descriptor may name this
+/// receiver.
+///
+/// An error is the first condition that it breaks.
 #[tactic(auto, unfolding(crate::specs::Reading::naming_flaw_at))]
 fn check_name<B: Bytes>(
     bytes: &B,
@@ -131,8 +138,13 @@ fn check_each_name<B: Bytes>(bytes: &B, version: Version, header: &Header) -> Re
     Ok(())
 }
 
-/// Whether each access descriptor of a retrieve names a receiver, and no two name the same. In FF-A 1.1 there is one, of which
-/// other conditions say so.
+/// Checks that each access descriptor of a retrieve names a receiver, and that no two of them name one receiver. On a
+/// machine of FF-A 1.1 this function checks nothing, because a retrieve has one access descriptor there. Other
+/// functions check it.
+///
+/// # Errors
+///
+/// The first condition that an access descriptor breaks, with the index of this access descriptor.
 pub fn check_names<B: Bytes>(
     bytes: &B,
     ffa: Ffa,
@@ -149,7 +161,7 @@ pub fn check_names<B: Bytes>(
     }
 }
 
-/// Whether each of the first access descriptors names one of these receivers.
+/// Whether each of the first `count` access descriptors names one of these receivers.
 fn are_names_known<B: Bytes>(
     bytes: &B,
     version: Version,
@@ -169,7 +181,7 @@ fn are_names_known<B: Bytes>(
     true
 }
 
-/// Whether the first access descriptors name each of these receivers.
+/// Whether the first `count` access descriptors name all of these receivers.
 fn are_all_named<B: Bytes>(
     bytes: &B,
     version: Version,
@@ -184,7 +196,7 @@ fn are_all_named<B: Bytes>(
     receivers.iter().all(|receiver| is_among_first(bytes, version, array, count, receiver.endpoint))
 }
 
-/// Whether the bytes of a retrieve descriptor name one endpoint alone, or exactly these receivers.
+/// Whether a retrieve descriptor has one access descriptor, or names exactly these receivers.
 pub fn names_receivers<B: Bytes>(bytes: &B, version: Version, receivers: &[Receiver]) -> bool
     requires { IsHeader (in_version version (B.bytes bytes.now)) }
     ensures { result ≡ are_receivers (endpoints_named (in_version version (B.bytes bytes.now))) receivers.now }

@@ -1,5 +1,6 @@
 // SPDX-License-Identifier: MIT OR Apache-2.0
-//! The parts that descriptors have in common (DEN0077A, 5.11 and 16): what is asked of them, and how they are written.
+//! The parts that descriptors of transactions have in common (DEN0077A, 5.11 and 16): their sizes and checks, and how
+//! the library writes them.
 
 ghost use Rattle.std.specs.Prelude.{◌+◌, ◌*◌, ◌^◌, ◌<◌, ◌≤◌, List, ℕ, length, ◌++◌};
 ghost use Rattle.std.specs.List.{flat_map};
@@ -17,7 +18,8 @@ pub use crate::receivers::is_named;
 pub use crate::send::attributes_of;
 use ffa_model::{Range, Version};
 
-/// Writes the header's end, behind its first 32 bytes: where the access descriptors stand, where the header tells it.
+/// Writes the bytes of the header after its first 32. These bytes are the offset of the access descriptors, and zeros.
+/// The compact header ends before them, so nothing is written in the compact form.
 pub fn write_rest(out: &mut [u8], version: Version)
     requires { header_size version ≤ length out.old }
     ensures { (old front : List ℕ) → Wrote old front 32 out.old
@@ -33,7 +35,7 @@ pub fn write_rest(out: &mut [u8], version: Version)
     }
 }
 
-/// Writes the end of the access descriptor at a place, behind its first 8 bytes: zeros.
+/// Writes zeros into the access descriptor at a place, after its first 8 bytes.
 pub fn write_access_rest(out: &mut [u8], version: Version, at: usize)
     requires { at + accesses_size version 1 ≤ length out.old }
     ensures { (old front : List ℕ) → Wrote old front (at + 8) out.old
@@ -49,7 +51,7 @@ pub fn write_access_rest(out: &mut [u8], version: Version, at: usize)
     }
 }
 
-/// Writes a composite at a place, without its ranges: how many pages and how many ranges there are.
+/// Writes a composite at a place, without its ranges: the number of pages, the number of ranges, and zeros.
 pub fn write_composite(out: &mut [u8], at: usize, ranges: &[Range])
     requires room { at + 16 ≤ length out.old }
     requires few { length ranges.now ≤ MOST_RANGES }
@@ -72,7 +74,7 @@ fn write_range(out: &mut [u8], at: usize, range: &Range)
     put_u32(out, at + 12, 0);
 }
 
-/// Writes ranges from a place on, one behind another.
+/// Writes ranges from a place on, one after another.
 pub fn write_ranges(out: &mut [u8], at: usize, ranges: &[Range])
     requires { at + 16 * length ranges.now ≤ length out.old }
     ensures { (old front : List ℕ) → Wrote old front at out.old

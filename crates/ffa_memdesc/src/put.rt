@@ -1,5 +1,5 @@
 // SPDX-License-Identifier: MIT OR Apache-2.0
-//! Numbers that are put at a place, the low byte first.
+//! Numbers that the library puts at a place in bytes, the low byte first.
 
 ghost use Rattle.std.specs.Prelude.{◌≡◌, ◌+◌, ◌≤◌, length, [], ◌∷◌, ◌++◌, take, drop};
 ghost use Rattle.ffa_model.specs.ResponseBytes.{le};
@@ -14,7 +14,7 @@ pub fn put_u8(out: &mut [u8], at: usize, value: u8)
     out[at] = value;
 }
 
-/// Puts a number of two bytes at this place. The bytes around it stay.
+/// Puts a number of two bytes at this place, the low byte first. The bytes around it stay.
 pub fn put_u16(out: &mut [u8], at: usize, value: u16)
     requires { at + 2 ≤ length out.old }
     ensures { out.new ≡ take at out.old ++ (le 2 value ++ drop (at + 2) out.old) }
@@ -22,7 +22,7 @@ pub fn put_u16(out: &mut [u8], at: usize, value: u16)
     LittleEndian::write_u16(&mut out[at..], value);
 }
 
-/// Puts a number of four bytes at this place. The bytes around it stay.
+/// Puts a number of four bytes at this place, the lowest byte first. The bytes around it stay.
 pub fn put_u32(out: &mut [u8], at: usize, value: u32)
     requires { at + 4 ≤ length out.old }
     ensures { out.new ≡ take at out.old ++ (le 4 value ++ drop (at + 4) out.old) }
@@ -30,7 +30,7 @@ pub fn put_u32(out: &mut [u8], at: usize, value: u32)
     LittleEndian::write_u32(&mut out[at..], value);
 }
 
-/// Puts a number of eight bytes at this place. The bytes around it stay.
+/// Puts a number of eight bytes at this place, the lowest byte first. The bytes around it stay.
 pub fn put_u64(out: &mut [u8], at: usize, value: u64)
     requires { at + 8 ≤ length out.old }
     ensures { out.new ≡ take at out.old ++ (le 8 value ++ drop (at + 8) out.old) }

@@ -1,5 +1,5 @@
 // SPDX-License-Identifier: MIT OR Apache-2.0
-//! The composite of a send: its ranges.
+//! The composite of a send, which lists the ranges of pages.
 
 ghost use Rattle.std.specs.Prelude.{◌≡◌, ℕ, ◌+◌, ◌*◌, ◌≤◌, ◌<◌, [], length, true, false, Some, None, IfOk, IfErr, OnOk, OnErr, IfSome, IfNone};
 ghost use Rattle.std.specs.List.{list_all};
@@ -18,7 +18,13 @@ use crate::header::{Header, RANGE_SIZE, accesses_size};
 use arrayvec::ArrayVec;
 use ffa_model::{CompositeFlaw, Flaw, MOST_RANGES, Range, RangeFlaw, Version};
 
-/// How many ranges the composite has, where it stands behind the access descriptors and inside the bytes.
+/// Returns the number of ranges of the composite at this place. The composite must not begin before the access
+/// descriptors end, and must end inside the bytes with its ranges.
+///
+/// # Errors
+///
+/// The first condition of a composite that the bytes break. This function does not check the ranges and the sum of
+/// their pages.
 #[tactic(auto, unfolding(crate::specs::Reading::range_count_of, crate::specs::Reading::composite_flaw_at))]
 pub fn read_range_count<B: Bytes>(
     bytes: &B,
@@ -62,7 +68,7 @@ pub fn read_range_count<B: Bytes>(
     Ok(count)
 }
 
-/// Where a range ends. Nothing wraps.
+/// Returns the first address after a range. The sum does not wrap.
 pub fn range_end(range: &Range) -> u128
     ensures { result ≡ range_end range.now }
 {
@@ -75,14 +81,17 @@ fn are_apart(a: &Range, b: &Range) -> bool
     range_end(a) <= b.address as u128 || range_end(b) <= a.address as u128
 }
 
-/// Whether the range has no page of these.
+/// Whether the range has no page in common with any of the others.
 pub fn is_apart_from(range: &Range, others: &[Range]) -> bool
     ensures { result ≡ list_all (are_apart range.now) others.now }
 {
     others.iter().all(|r| are_apart(range, r))
 }
 
-/// The range at this place, where it is one by itself.
+/// Returns the range at this place, if it is a range by itself. It has at least one page, and is page-aligned. It ends
+/// at or below 2^48, and its reserved bytes are 0.
+///
+/// An error is the first condition that it breaks.
 #[tactic(auto, unfolding(crate::specs::Reading::range_of, crate::specs::Reading::own_flaw_at))]
 fn read_range<B: Bytes>(bytes: &B, at: usize) -> Result<Range, RangeFlaw>
     requires { at + 16 ≤ length (B.bytes bytes.now) }
@@ -111,7 +120,10 @@ fn read_range<B: Bytes>(bytes: &B, at: usize) -> Result<Range, RangeFlaw>
     Ok(range)
 }
 
-/// Puts the ranges of the composite into an empty list, up to the first that is none by itself.
+/// Puts the ranges of the composite into an empty list, up to the first that breaks a condition by itself. This
+/// function does not check whether ranges overlap.
+///
+/// An error is this first condition, with the index of its range.
 fn read_each<B: Bytes>(
     bytes: &B,
     composite: u32,
@@ -139,7 +151,7 @@ fn read_each<B: Bytes>(
     Ok(())
 }
 
-// Whether each range ends before the next begins.
+// Whether each range begins at or after the end of the range before it.
 fn are_in_order(ranges: &[Range]) -> bool
     ensures { result ≡ true → AreApart ranges.now }
 {
@@ -154,7 +166,8 @@ fn are_in_order(ranges: &[Range]) -> bool
     true
 }
 
-// Whether these ranges are apart, by a copy that is in the order of their addresses.
+// Whether no two of these ranges have a page in common, by a copy that is sorted by addresses. The contract promises
+// nothing for `false`.
 #[inline(never)]
 fn are_apart_sorted(ranges: &[Range]) -> bool
     requires { length ranges.now ≤ MOST_RANGES }
@@ -169,7 +182,8 @@ fn are_apart_sorted(ranges: &[Range]) -> bool
     are_in_order(places)
 }
 
-// The first range with a page of an earlier one. Each is compared with all before it only where two overlap.
+// Returns the index of the first range that has a page of an earlier one, or `None`. It compares each range with all
+// ranges before it only if the sorted copy has an overlap.
 #[inline(always)]
 fn first_overlap(ranges: &[Range]) -> Option<usize>
     requires { length ranges.now ≤ MOST_RANGES }
@@ -189,8 +203,13 @@ fn first_overlap(ranges: &[Range]) -> Option<usize>
     None
 }
 
-/// Puts the ranges of the composite into an empty list, where all fit. The list is the caller's, since it is
-/// large to move.
+/// Puts the ranges of the composite into an empty list, if each is a range and no two overlap. The caller passes the
+/// list, because a list is costly to move.
+///
+/// # Errors
+///
+/// The first condition of a range that the bytes break, with the index of this range. The list may then have any
+/// contents.
 pub fn read_ranges<B: Bytes>(
     bytes: &B,
     composite: u32,
@@ -210,7 +229,7 @@ pub fn read_ranges<B: Bytes>(
     }
 }
 
-/// How many pages the ranges of a transaction have together. Nothing wraps.
+/// Returns the number of pages of all ranges of a transaction together. The sum does not wrap.
 pub fn page_total(ranges: &[Range]) -> u64
     requires { length ranges.now ≤ MOST_RANGES }
     ensures { result ≡ page_total ranges.now }

@@ -1,6 +1,7 @@
 // SPDX-License-Identifier: MIT OR Apache-2.0
-//! Why bytes are no descriptor: where the field stands of which a broken condition speaks, and what stands there. This
-//! serves diagnostics alone. No descriptor is read by it, so who audits the core can skip it.
+//! The reasons why bytes are not a descriptor: the place of the field that a broken condition is about, and the value
+//! of this field. This module serves diagnostics only. No function here reads a descriptor, so an auditor of the core
+//! can skip this module.
 
 ghost use Rattle.std.specs.Prelude.{◌≡◌, ◌+◌, ◌*◌, ◌^◌, ◌≤◌, length};
 ghost use Rattle.ffa_model.specs.DescriptorPlaces.{accesses_size, in_version};
@@ -19,7 +20,7 @@ fn field(first: u64, size: u64) -> FieldPlace
     FieldPlace { first, size }
 }
 
-/// The place that the four bytes at a place tell, 0 where the bytes end before.
+/// Returns the number in the four bytes at a place, or 0 if the bytes end before.
 fn told_place<B: Bytes>(bytes: &B, at: u64) -> u32
     requires { at ≤ 2 ^ 32 + 4 }
     ensures { result ≡ told_place (B.bytes bytes.now) at }
@@ -31,7 +32,8 @@ fn told_place<B: Bytes>(bytes: &B, at: u64) -> u32
     }
 }
 
-/// Where the access descriptors begin, as far as the bytes tell it.
+/// Returns the offset of the access descriptors, as the bytes state it. If the bytes end before they state it, the
+/// result is 0.
 fn told_array<B: Bytes>(bytes: &B, version: Version) -> u32
     ensures { result ≡ told_array (in_version version (B.bytes bytes.now)) }
 {
@@ -41,14 +43,16 @@ fn told_array<B: Bytes>(bytes: &B, version: Version) -> u32
     }
 }
 
-/// Where the composite stands, as far as the bytes tell it.
+/// Returns the offset of the composite, as the first access descriptor states it. If the bytes end before they state
+/// it, the result is 0.
 fn told_composite<B: Bytes>(bytes: &B, version: Version) -> u32
     ensures { result ≡ told_composite (in_version version (B.bytes bytes.now)) }
 {
     told_place(bytes, told_array(bytes, version) as u64 + 4)
 }
 
-/// How many access descriptors there are, where they begin if that is told, and which size each has in FF-A 1.2.
+/// Returns the field with the number of access descriptors. Except in the compact form, the field includes their
+/// offset. In FF-A 1.2 it also includes the size of an access descriptor.
 fn array_field(version: Version) -> FieldPlace
     ensures { result ≡ array_field version }
 {
@@ -83,7 +87,7 @@ fn send_flaw_place(flaw: SendFlaw) -> FieldPlace
     }
 }
 
-/// The end of the access descriptor at a place, which says nothing.
+/// Returns the reserved end of the access descriptor at a place, after its first 8 bytes.
 fn access_rest_field(version: Version, at: u64) -> FieldPlace
     requires { at ≤ 2 ^ 40 }
     ensures { result ≡ access_rest_field version at }
@@ -94,7 +98,7 @@ fn access_rest_field(version: Version, at: u64) -> FieldPlace
     }
 }
 
-/// By the access descriptor's place.
+/// Returns the field that a condition of the access descriptor at this place is about.
 fn access_flaw_place(version: Version, at: u64, flaw: AccessFlaw) -> FieldPlace
     requires { at ≤ 2 ^ 40 }
     ensures { result ≡ access_flaw_place version at flaw }
@@ -108,7 +112,8 @@ fn access_flaw_place(version: Version, at: u64, flaw: AccessFlaw) -> FieldPlace
     }
 }
 
-/// By the place of the array, whose first access descriptor tells that of the composite, and by the composite's.
+/// Returns the field that a condition of the composite is about. It needs the places of the access descriptors and of
+/// the composite, because the first access descriptor states the offset of the composite.
 fn composite_flaw_place(array: u64, composite: u64, flaw: CompositeFlaw) -> FieldPlace
     requires array { array ≤ 2 ^ 40 }
     requires composite { composite ≤ 2 ^ 40 }
@@ -126,7 +131,7 @@ fn composite_flaw_place(array: u64, composite: u64, flaw: CompositeFlaw) -> Fiel
     }
 }
 
-/// By the range's place.
+/// Returns the field that a condition of the range at this place is about.
 fn range_flaw_place(at: u64, flaw: RangeFlaw) -> FieldPlace
     requires { at ≤ 2 ^ 40 }
     ensures { result ≡ range_flaw_place at flaw }
@@ -139,7 +144,7 @@ fn range_flaw_place(at: u64, flaw: RangeFlaw) -> FieldPlace
     }
 }
 
-/// By the place of the caller's access descriptor.
+/// Returns the field that a condition of a retrieve is about. `own` is the place of the caller's access descriptor.
 fn retrieve_flaw_place(version: Version, own: u64, flaw: RetrieveFlaw) -> FieldPlace
     requires { own ≤ 2 ^ 40 }
     ensures { result ≡ retrieve_flaw_place version own flaw }
@@ -169,7 +174,8 @@ fn relinquish_flaw_place(flaw: RelinquishFlaw) -> FieldPlace
     }
 }
 
-/// The place of the access descriptor with this index, of those that begin at a place.
+/// Returns the place of the access descriptor with this index, in an array of access descriptors that begins at a
+/// place.
 fn access_place(version: Version, array: u64, index: u32) -> u64
     requires { array ≤ 2 ^ 33 }
     ensures value { result ≡ array + accesses_size version index }
@@ -178,7 +184,7 @@ fn access_place(version: Version, array: u64, index: u32) -> u64
     array + accesses_size(version, index)
 }
 
-/// The place of the range with this index, of those of the composite at a place.
+/// Returns the place of the range with this index, in the composite at a place.
 fn range_place(composite: u64, index: u32) -> u64
     requires { composite ≤ 2 ^ 33 }
     ensures value { result ≡ composite + 16 + 16 * index }
@@ -187,8 +193,8 @@ fn range_place(composite: u64, index: u32) -> u64
     composite + 16 + u64::from(RANGE_SIZE) * u64::from(index)
 }
 
-/// The field of which a condition speaks that these bytes break, in a descriptor of an endpoint of this
-/// version. What the bytes don't tell, since they end before, counts as 0.
+/// Returns the field that a broken condition is about, in the descriptor of an endpoint with this version. If the bytes
+/// end before they state the offset of a part, this offset counts as 0.
 pub fn flaw_place<B: Bytes>(bytes: &B, version: Version, flaw: Flaw) -> FieldPlace
     ensures { result ≡ flaw_place (in_version version (B.bytes bytes.now)) flaw }
 {
@@ -209,7 +215,7 @@ pub fn flaw_place<B: Bytes>(bytes: &B, version: Version, flaw: Flaw) -> FieldPla
     }
 }
 
-/// The number of 1, 2, 4 or 8 bytes at a place.
+/// Returns the number of 1, 2, 4 or 8 bytes at a place, or `None` for another size.
 fn number_of_size<B: Bytes>(bytes: &B, at: usize, size: u64) -> Option<u64>
     requires { at + size ≤ length (B.bytes bytes.now) }
     ensures { result ≡ number_of_size (B.bytes bytes.now) at size }
@@ -223,7 +229,8 @@ fn number_of_size<B: Bytes>(bytes: &B, at: usize, size: u64) -> Option<u64>
     }
 }
 
-/// What stands in a field, where it has 1, 2, 4 or 8 bytes and all are there.
+/// Returns the number in a field of 1, 2, 4 or 8 bytes. Returns `None` if the field has another size, or if it ends
+/// outside the bytes.
 pub fn field_value<B: Bytes>(bytes: &B, place: &FieldPlace) -> Option<u64>
     ensures { result ≡ field_value (B.bytes bytes.now) place.now }
 {

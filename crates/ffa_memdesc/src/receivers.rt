@@ -1,5 +1,5 @@
 // SPDX-License-Identifier: MIT OR Apache-2.0
-//! The receivers of a send.
+//! The receivers of a send, which its access descriptors name.
 
 ghost use Rattle.std.specs.Prelude.{◌≡◌, ℕ, ◌+◌, ◌*◌, ◌≤◌, length, Some, IfOk};
 ghost use Rattle.std.specs.Option.{option_map};
@@ -27,7 +27,7 @@ fn is_grant(kind: Kind, permissions: u8) -> bool
     }
 }
 
-/// The data right of a code: 01 and 10 are one, and 00 is none.
+/// Returns the data right of a code: 01 is read-only, and 10 is read and write. For any other code, returns `None`.
 pub fn data_of(code: u8) -> Option<Data>
     ensures { result ≡ data_of code }
 {
@@ -45,7 +45,10 @@ pub fn is_named(endpoint: EndpointId, receivers: &[Receiver]) -> bool
     receivers.iter().any(|r| r.endpoint.0 == endpoint.0)
 }
 
-/// The receiver of the access descriptor at this place, where no earlier one names it.
+/// Returns the receiver that the access descriptor at this place names. The receiver may not be the sender or one of
+/// the earlier receivers.
+///
+/// An error is the first condition that the access descriptor breaks.
 #[tactic(auto, unfolding(crate::specs::Reading::receiver_of, crate::specs::Reading::access_flaw_at))]
 fn read_receiver<B: Bytes>(
     bytes: &B,
@@ -87,7 +90,11 @@ fn read_receiver<B: Bytes>(
     })
 }
 
-/// The receivers that a send names, where all fit.
+/// Returns the receivers that the access descriptors of a send name.
+///
+/// # Errors
+///
+/// The first condition that an access descriptor breaks, with the index of this access descriptor.
 pub fn read_receivers<B: Bytes>(
     bytes: &B,
     version: Version,

@@ -1,5 +1,5 @@
 // SPDX-License-Identifier: MIT OR Apache-2.0
-//! Relinquish descriptors.
+//! The descriptor of FFA_MEM_RELINQUISH.
 
 ghost use Rattle.std.specs.Prelude.{◌≡◌, IfOk, IfErr, OnErr};
 ghost use Rattle.std.specs.Result.{result_ok, result_err};
@@ -11,11 +11,14 @@ ghost use Rattle.ffa_model.specs.declared.descriptor.RelinquishDesc.{RelinquishD
 use crate::bytes::{Bytes, read_u16, read_u32, read_u64};
 use ffa_model::{EndpointId, Flaw, RelinquishDesc, RelinquishFlaw};
 
-/// How many bytes a relinquish descriptor of one endpoint has.
+/// The size of a relinquish descriptor with one endpoint, in bytes.
 const SIZE: usize = 18;
 
-/// What the bytes say, wherever they lie, as a relinquish descriptor of one endpoint. An error is the first
-/// condition of these that they break.
+/// Returns the contents of a relinquish descriptor of one endpoint, if the bytes are one.
+///
+/// # Errors
+///
+/// The first condition of a relinquish descriptor that the bytes break. No relinquish descriptor has these bytes then.
 #[tactic(auto, unfolding(ffa_model::specs::RelinquishDescriptor::relinquish_of, ffa_model::specs::FirstFlaws::relinquish_flaw))]
 pub fn read_relinquish<B: Bytes>(bytes: &B) -> Result<RelinquishDesc, Flaw>
     ensures found { IfOk result (λ d. Relinquish (B.bytes bytes.now) d) }

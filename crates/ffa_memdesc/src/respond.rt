@@ -1,5 +1,5 @@
 // SPDX-License-Identifier: MIT OR Apache-2.0
-//! The answers to retrieves, written where their callers read them.
+//! The responses to retrieves, which the library writes into a page that the caller of the retrieve reads.
 
 ghost use Rattle.std.specs.Prelude.{◌≡◌, ◌+◌, ◌^◌, ◌<◌, ◌≤◌, List, ℕ, length, map, ◌++◌, drop};
 ghost use Rattle.ffa_model.specs.declared.limits.TheConstants.{MOST_RECEIVERS};
@@ -18,7 +18,8 @@ use ffa_model::{
     Data, EndpointId, Kind, MOST_RECEIVERS, Receiver, Response, Rights, SentTransaction, Version,
 };
 
-/// Normal memory, and in bit 6 whether it is non-secure, which the compact form doesn't tell.
+/// Returns the memory attributes of a response. The memory is normal. Bit 6 says whether it is non-secure, except in
+/// the compact form, which does not say it.
 fn attributes_told(version: Version, normal: bool) -> u16
     ensures { result ≡ attributes_told version normal }
 {
@@ -34,7 +35,7 @@ fn attributes_told(version: Version, normal: bool) -> u16
     }
 }
 
-/// The flags: the kind in bits 4:3, and in bit 0 whether the pages were zeroed.
+/// Returns the flags of a response. Bits 4:3 are the kind, and bit 0 says whether the manager zeroed the pages.
 fn flags_of(kind: Kind, zero: bool) -> u32
     ensures { result ≡ flags_of kind zero }
 {
@@ -46,7 +47,7 @@ fn flags_of(kind: Kind, zero: bool) -> u32
     kind << 3 | zero as u32
 }
 
-/// The permissions: data in bits 1:0, instructions in bits 3:2.
+/// Returns the permissions of a right. Bits 1:0 are the data permission, and bits 3:2 are the instruction permission.
 fn permissions_of(rights: Rights) -> u8
     ensures { result ≡ permissions_of rights }
 {
@@ -58,7 +59,7 @@ fn permissions_of(rights: Rights) -> u8
     exec << 2 | level
 }
 
-/// The permissions of a receiver in what it was sent: the data right that it was granted.
+/// Returns the permissions of a receiver in a transaction as it was sent: the data right that the sender granted.
 fn granted_permissions(receiver: &Receiver) -> u8
     ensures { (receiver.now.endpoint.0, result) ≡ access_granted receiver.now }
 {
@@ -69,7 +70,7 @@ fn granted_permissions(receiver: &Receiver) -> u8
     }
 }
 
-/// What the header of a response tells, except how many access descriptors follow it.
+/// The fields of the header of a response, except the number of its access descriptors.
 #[derive(Clone, Copy)]
 struct ResponseHeader {
     sender: EndpointId,
@@ -94,7 +95,7 @@ fn write_header(out: &mut [u8], version: Version, header: &ResponseHeader, count
     write_rest(out, version);
 }
 
-/// One of so many access descriptors, at a place. The composite stands right behind all.
+/// Writes one of `count` access descriptors at a place. The composite begins directly after the last of them.
 fn write_access(
     out: &mut [u8],
     version: Version,
@@ -116,7 +117,7 @@ fn write_access(
     write_access_rest(out, version, at);
 }
 
-/// An access descriptor for each receiver, behind the header.
+/// Writes an access descriptor for each receiver, after the header.
 fn write_receivers(out: &mut [u8], version: Version, receivers: &[Receiver])
     requires room { header_size version + accesses_size version (length receivers.now) ≤ length out.old }
     requires few { length receivers.now ≤ MOST_RECEIVERS }
@@ -140,7 +141,8 @@ fn write_receivers(out: &mut [u8], version: Version, receivers: &[Receiver])
     }
 }
 
-// The response in the form of a version. Its callers know which, so all places are constants where it is inlined.
+// Writes the response in the form of a version, like `write_response`. Each caller passes a constant version. So where
+// the compiler inlines this function, all places are constants.
 #[inline(always)]
 fn write_in(response: &Response, version: Version, out: &mut [u8; 4096]) -> usize
     requires { page_total response.now.ranges.items < 2 ^ 32 }
@@ -167,8 +169,8 @@ fn write_in(response: &Response, version: Version, out: &mut [u8; 4096]) -> usiz
     composite + 16 + RANGE_SIZE as usize * ranges.len()
 }
 
-/// Writes a response to a caller of this version from the page's first byte on, and answers how many bytes it has. The
-/// rest of the page stays.
+/// Writes a response to a caller of this version, from the first byte of the page on. Returns the size of the response
+/// in bytes. The rest of the page stays.
 pub fn write_response(response: &Response, version: Version, out: &mut [u8; 4096]) -> usize
     requires { page_total response.now.ranges.items < 2 ^ 32 }
     ensures size { result ≡ response_size version 1 response.now.ranges.items }
@@ -182,8 +184,8 @@ pub fn write_response(response: &Response, version: Version, out: &mut [u8; 4096
     }
 }
 
-/// Writes a transaction as it was sent, in the form of its reader's version, from the page's first byte on, and answers how many
-/// bytes it has. The rest of the page stays.
+/// Writes a transaction as it was sent, for a reader of this version, from the first byte of the page on. Returns the
+/// size of what it wrote in bytes. The rest of the page stays.
 pub fn write_sent(sent: &SentTransaction, version: Version, out: &mut [u8; 4096]) -> usize
     requires { page_total sent.now.ranges.items < 2 ^ 32 }
     ensures size { result ≡ response_size version (length sent.now.receivers.items) sent.now.ranges.items }

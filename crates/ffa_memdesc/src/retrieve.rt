@@ -1,5 +1,5 @@
 // SPDX-License-Identifier: MIT OR Apache-2.0
-//! Retrieve descriptors.
+//! The descriptor of FFA_MEM_RETRIEVE_REQ.
 
 ghost use Rattle.std.specs.Prelude.{◌≡◌, ◌≤◌, true, Some, IfOk, IfErr, OnOk, OnErr};
 ghost use Rattle.std.specs.Option.{option_map};
@@ -22,10 +22,10 @@ use crate::names::{check_names, own_index};
 use crate::receivers::data_of;
 use ffa_model::{EndpointId, Ffa, Flaw, Kind, MOST_RECEIVERS, RetrieveDesc, RetrieveFlaw, Version};
 
-// Bit 10 of the flags, by which the caller names itself alone.
+// Bit 10 of the flags: the only access descriptor is the caller's, even if the transaction has other receivers.
 const ALONE: u32 = 1 << 10;
 
-/// Bits 4:3 of the flags, which tell the kind.
+/// Returns the kind of the transaction, which bits 4:3 of the flags name. If these bits are 00, returns `None`.
 fn kind_of(flags: u32) -> Option<Kind>
     ensures { result ≡ kind_of (bits 4 3 flags) }
 {
@@ -37,7 +37,7 @@ fn kind_of(flags: u32) -> Option<Kind>
     }
 }
 
-/// The flags without the one by which the caller names itself alone in FF-A 1.2.
+/// Returns the flags without bit 10, by which the caller in FF-A 1.2 names only itself. In FF-A 1.1 all flags stay.
 fn flags_but_alone(ffa: Ffa, flags: u32) -> u32
     ensures { result ≡ flags_but_alone ffa flags }
 {
@@ -48,7 +48,7 @@ fn flags_but_alone(ffa: Ffa, flags: u32) -> u32
     }
 }
 
-/// Whether a retrieve with these flags may have so many access descriptors.
+/// Whether a retrieve with these flags may have this number of access descriptors.
 fn is_named_count(ffa: Ffa, flags: u32, count: u32) -> bool
     ensures { result ≡ is_named_count ffa flags count }
 {
@@ -65,7 +65,9 @@ fn is_named_count(ffa: Ffa, flags: u32, count: u32) -> bool
     }
 }
 
-/// Whether the header is that of a retrieve.
+/// Checks that the header is a header of a retrieve.
+///
+/// An error is the first condition that the header breaks.
 #[tactic(auto, unfolding(ffa_model::specs::RetrieveDescriptor::is_retrieve_header, ffa_model::specs::FirstFlaws::asked_header_flaw))]
 fn check_header(ffa: Ffa, header: &Header) -> Result<(), RetrieveFlaw>
     ensures fits { (b : Versioned) → header.now ≡ header_in b → OnOk result (is_retrieve_header ffa b ≡ true) }
@@ -86,7 +88,9 @@ fn check_header(ffa: Ffa, header: &Header) -> Result<(), RetrieveFlaw>
     Ok(())
 }
 
-/// Whether the access descriptor is that of a retrieve for this endpoint.
+/// Checks that the access descriptor is one of a retrieve by this endpoint.
+///
+/// An error is the first condition that the access descriptor breaks.
 #[tactic(auto, unfolding(ffa_model::specs::RetrieveDescriptor::is_retrieve_access, ffa_model::specs::FirstFlaws::asked_access_flaw))]
 fn check_access(endpoint: EndpointId, access: &Access) -> Result<(), RetrieveFlaw>
     ensures fits { (ffa : Ffa) (b : Versioned) → access.now ≡ access_in b (own_place ffa endpoint.0 b)
@@ -119,7 +123,8 @@ fn check_access(endpoint: EndpointId, access: &Access) -> Result<(), RetrieveFla
     Ok(())
 }
 
-// The descriptor that the bytes say. Its callers know the version of FF-A, so one of FF-A 1.1 has no loop over names.
+// Returns the contents of the descriptor. Each caller passes a constant version of FF-A. So the compiled code for FF-A
+// 1.1 has no loop over names.
 #[inline(always)]
 fn retrieve_in<B: Bytes>(
     bytes: &B,
@@ -169,8 +174,12 @@ fn retrieve_by<B: Bytes>(
     }
 }
 
-/// What the bytes say, wherever they lie, as a retrieve descriptor for this endpoint, which has this version, on a machine of this
-/// FF-A. An error is the first condition of these that they break.
+/// Returns the contents of a retrieve descriptor, if the bytes are one. The retrieve is by this endpoint, in the layout
+/// of this version, on a machine of this FF-A.
+///
+/// # Errors
+///
+/// The first condition of such a retrieve descriptor that the bytes break. No such descriptor has these bytes then.
 pub fn read_retrieve<B: Bytes>(
     bytes: &B,
     ffa: Ffa,

@@ -1,5 +1,5 @@
 // SPDX-License-Identifier: MIT OR Apache-2.0
-//! Send descriptors.
+//! The descriptor of FFA_MEM_DONATE, FFA_MEM_LEND and FFA_MEM_SHARE.
 
 ghost use Rattle.std.specs.Prelude.{◌≡◌, ◌≤◌, true, Some, IfErr, OnOk, OnErr};
 ghost use Rattle.std.specs.Option.{option_map};
@@ -18,7 +18,8 @@ use crate::ranges::{page_total, read_range_count, read_ranges};
 use crate::receivers::read_receivers;
 use ffa_model::{CompositeFlaw, Ffa, Flaw, Kind, MOST_RECEIVERS, SendDesc, SendFlaw, Version};
 
-/// The greatest flags of a send. Bit 0 asks for zeros, but not in a share.
+/// Returns the greatest value that the flags of a send may have without its type. Bit 0 requests zeroed pages, and a
+/// share may not set it.
 fn most_flags(kind: Kind) -> u32
     ensures { result ≡ most_flags kind }
 {
@@ -38,7 +39,8 @@ fn most_receivers(kind: Kind) -> u32
     }
 }
 
-/// The memory attributes of a send to this many receivers: a donate, and a lend to one, leave them to the receiver.
+/// Returns the memory attributes of a send to this number of receivers. A donate, and a lend to one receiver, have 0:
+/// the receiver specifies them.
 pub fn attributes_of(kind: Kind, count: u32) -> u16
     ensures { result ≡ attributes_of kind count }
 {
@@ -49,7 +51,8 @@ pub fn attributes_of(kind: Kind, count: u32) -> u16
     }
 }
 
-/// Whether these are the memory attributes of a send to this many receivers.
+/// Whether a send to this number of receivers may have these memory attributes. In FF-A 1.2 a lend may have 0 or normal
+/// memory.
 fn is_attributes(ffa: Ffa, kind: Kind, count: u32, attributes: u16) -> bool
     ensures { result ≡ is_attributes ffa kind count attributes }
 {
@@ -59,7 +62,7 @@ fn is_attributes(ffa: Ffa, kind: Kind, count: u32, attributes: u16) -> bool
     }
 }
 
-/// The type of a transaction, as bits 4:3 of the flags name it.
+/// Returns the type of a transaction, as bits 4:3 of the flags name it.
 fn kind_code(kind: Kind) -> u32
     ensures { result ≡ kind_code (Some kind) }
 {
@@ -70,7 +73,8 @@ fn kind_code(kind: Kind) -> u32
     }
 }
 
-/// What the flags of a send say beside its type, which they may name in FF-A 1.2.
+/// Returns the flags of a send without its type. In FF-A 1.2 bits 4:3 of the flags may name the type of the call.
+/// Otherwise all flags stay.
 fn flags_but_type(ffa: Ffa, kind: Kind, flags: u32) -> u32
     ensures { result ≡ flags_but_type ffa kind flags }
 {
@@ -81,7 +85,9 @@ fn flags_but_type(ffa: Ffa, kind: Kind, flags: u32) -> u32
     }
 }
 
-/// Whether the header is that of a send.
+/// Checks that the header is a header of a send.
+///
+/// An error is the first condition that the header breaks.
 #[tactic(auto, unfolding(ffa_model::specs::SendDescriptor::is_send_header, ffa_model::specs::FirstFlaws::send_header_flaw))]
 fn check_header(ffa: Ffa, kind: Kind, header: &Header) -> Result<(), SendFlaw>
     ensures fits { (b : Versioned) → header.now ≡ header_in b → OnOk result (is_send_header ffa kind b ≡ true) }
@@ -142,9 +148,13 @@ fn send_in<B: Bytes>(
     Ok(())
 }
 
-/// Puts what the bytes say, wherever they lie, as a send descriptor of this kind, for a machine of this FF-A and from a caller of this
-/// version, in the place of an offer, which is large to clear and to move. An error is the first condition of
-/// these that they break, and says nothing of the offer.
+/// Reads a send descriptor of this kind into an offer, if the bytes are one. The machine has this FF-A, and the caller
+/// has this version. The caller passes the offer, because an offer is costly to clear and to move.
+///
+/// # Errors
+///
+/// The first condition of such a send descriptor that the bytes break. No such descriptor has these bytes then. The
+/// offer may have any contents.
 pub fn read_send<B: Bytes>(
     bytes: &B,
     ffa: Ffa,
