@@ -1,5 +1,5 @@
 // SPDX-License-Identifier: MIT OR Apache-2.0
-//! Whose access to which pages a call on memory changes.
+//! The reports of changed access: the pages of a call on memory, and the endpoint whose access to them changed.
 ghost use Rattle.std.specs.Prelude.{◌≡◌, Some, None};
 ghost use Rattle.std.specs.Option.{option_copied};
 ghost use Rattle.ffa_memshare.specs.Changed.{changed_sender};
@@ -9,12 +9,12 @@ use crate::page_ranges::PageRanges;
 use ffa_model::{EndpointId, Kind};
 use std::marker::Model;
 
-/// Whose access to which pages a call on memory changed.
+/// A report of changed access: the pages that a call on memory is about, and the endpoint whose access to them changed.
 #[derive(Drop)]
 pub struct Changed {
     /// The ranges of the transaction.
     pub ranges: PageRanges,
-    /// The endpoint whose access to their pages changed, or none where nobody's did.
+    /// The endpoint whose access to the pages changed, or `None` if no endpoint's access changed.
     pub endpoint: Option<EndpointId>,
 }
 
@@ -29,20 +29,20 @@ impl Changed {
     }
 }
 
-/// What the caller of a call on memory is told, beside that it is done.
-// If the four calls on memory returned a `Reply`, each would have to promise that it is not an error.
+/// The result that a successful call on memory returns to its caller.
+// If the four calls on memory returned a `Reply`, each of them would need a promise that it is not an error.
 #[derive(Clone, Copy, PartialEq, Eq)]
 pub enum Value {
-    /// Nothing more.
+    /// The call returns only success.
     Nothing,
-    /// The handle of the transaction that is open now.
+    /// The handle of the transaction that the call opened.
     Handle(u64),
-    /// How many bytes the response in the caller's RX has.
+    /// The size of the response in the caller's RX, in bytes.
     Size(u32),
 }
 
-// What was told last, or nothing. It is filled in where it stands, since its ranges are large to move.
-// Contracts see what is told.
+// The last report of changed access, or no report. A call fills the report in place, because its ranges are costly to
+// move. Contracts see the report.
 #[derive(Drop)]
 pub(crate) struct Told {
     is_told: bool,
@@ -60,7 +60,7 @@ impl Model for Told {
 }
 
 impl Told {
-    // Nothing.
+    // Returns a value without a report.
     fn none() -> Told
         ensures { result ≡ None }
     {
@@ -73,8 +73,8 @@ impl Told {
         }
     }
 
-    // Tells that the access of an endpoint, or of nobody, to the pages of these ranges has changed, in place
-    // of what was told before.
+    // Makes a report that the access of an endpoint to the pages of these ranges changed. If `endpoint` is `None`, no
+    // endpoint's access changed. The new report replaces the last one.
     #[inline(always)]
     pub(crate) fn tell(&mut self, ranges: &PageRanges, endpoint: Option<EndpointId>)
         ensures { self.new ≡ Some (record { ranges = ranges.now; endpoint = endpoint }) }
@@ -84,7 +84,7 @@ impl Told {
         self.changed.endpoint = endpoint;
     }
 
-    // What was told.
+    // Returns the report. The report stays.
     fn last(&self) -> Option<&Changed>
         ensures { option_copied result ≡ self.now }
     {
@@ -95,7 +95,7 @@ impl Told {
         }
     }
 
-    // The same once more.
+    // Returns a copy, with the report.
     pub(crate) fn copy(&self) -> Told
         ensures { result ≡ self.now }
     {
@@ -105,7 +105,7 @@ impl Told {
         }
     }
 
-    // What was told, which is told no more.
+    // Returns the report, and removes it.
     fn take(&mut self) -> Option<Changed>
         ensures told { result ≡ self.old }
         ensures none { self.new ≡ None }
@@ -118,7 +118,8 @@ impl Told {
     }
 }
 
-/// What was told last, or nothing, with room in which a call is read. Contracts see what is told.
+/// The last report of changed access, or no report. The value also has room in which calls read descriptors. Contracts
+/// see the report.
 #[derive(Drop)]
 pub struct News {
     pub(crate) told: Told,
@@ -135,7 +136,7 @@ impl Model for News {
 }
 
 impl News {
-    /// Nothing.
+    /// Returns a value without a report.
     pub fn none() -> News
         ensures { result ≡ None }
     {
@@ -145,14 +146,14 @@ impl News {
         }
     }
 
-    /// Returns what was told, and leaves it told.
+    /// Returns the report. The report stays.
     pub fn last(&self) -> Option<&Changed>
         ensures { option_copied result ≡ self.now }
     {
         self.told.last()
     }
 
-    /// What was told, which is told no more.
+    /// Returns the report, and removes it.
     pub fn take(&mut self) -> Option<Changed>
         ensures told { result ≡ self.old }
         ensures none { self.new ≡ None }
@@ -161,7 +162,8 @@ impl News {
     }
 }
 
-// Whose access a send changes, and a reclaim: the sender's, but nobody's of a share, to which it keeps its right.
+// Returns the endpoint whose access a send or a reclaim changes. It is the sender, or `None` for a share, because the
+// sender of a share keeps its right.
 pub(crate) fn changed_sender(kind: Kind, sender: EndpointId) -> Option<EndpointId>
     ensures { result ≡ changed_sender kind sender.0 }
 {

@@ -1,5 +1,5 @@
 // SPDX-License-Identifier: MIT OR Apache-2.0
-//! What all pages of ranges have in common.
+//! The access that the owners of all pages of ranges have in common.
 ghost use Rattle.ffa_rxtx.specs.Parts.{ownership_in};
 ghost use Rattle.std.specs.Prelude.{◌≡◌, ◌<◌, ◌&&◌, length};
 ghost use Rattle.ffa_model.specs.Rights.{may_fetch, may_store};
@@ -13,7 +13,7 @@ use crate::page_ranges::PageRanges;
 use ffa_model::{Address, Data, PageNo, Range, Rights, Room};
 use ffa_pages::{KeptPage, PageTable};
 
-/// What all of some pages have.
+/// For some pages, whether their owners may write to all of them, and whether they may execute all of them.
 #[derive(Clone, Copy, PartialEq, Eq)]
 pub struct Common {
     pub is_writable: bool,
@@ -21,7 +21,7 @@ pub struct Common {
 }
 
 impl Common {
-    /// The most that may be done with all these pages.
+    /// Returns the greatest right that each of these pages allows.
     pub fn right(self) -> Rights
         ensures { result ≡ most_of self.is_writable self.is_executable }
     {
@@ -31,7 +31,7 @@ impl Common {
         }
     }
 
-    // What both these pages and one more have.
+    // Returns the access to each of these pages and to one page more. The owner's right to this page is the argument.
     pub(crate) fn and(self, own_right: Option<Rights>) -> Common
         ensures writable { result.is_writable ≡ (self.is_writable && may_store own_right) }
         ensures executable { result.is_executable ≡ (self.is_executable && may_fetch own_right) }
@@ -49,7 +49,7 @@ impl Common {
     }
 }
 
-// What these pages and those of a range have.
+// Returns the access to each of these pages and to each page of a range.
 fn common_with<P: Room<KeptPage> + Drop>(
     pages: &PageTable<P>,
     base: Address,
@@ -76,7 +76,8 @@ fn common_with<P: Room<KeptPage> + Drop>(
     common
 }
 
-/// What the owners of all pages of these ranges may do with them while no transaction names them.
+/// Returns whether the owners may write to all pages of these ranges, and whether they may execute all of them. This is
+/// their access while no transaction names the pages.
 pub fn common_of<P: Room<KeptPage> + Drop>(
     pages: &PageTable<P>,
     base: Address,

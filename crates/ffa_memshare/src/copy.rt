@@ -1,5 +1,5 @@
 // SPDX-License-Identifier: MIT OR Apache-2.0
-//! The open transactions once more, and what is told.
+//! Copies of the open transactions, and of the report of changed access.
 ghost use Rattle.std.specs.Prelude.{◌≡◌, length};
 
 use crate::changed::News;
@@ -10,7 +10,8 @@ use arrayvec::ArrayVec;
 use ffa_model::{MOST_ENDPOINTS, Room};
 
 impl<O: Room<OpenSlot> + Drop> Pool<O> {
-    /// Becomes the same as another pool of as many endpoints, wherever that one lies. It takes no memory.
+    /// Copies another pool of the same number of endpoints into this pool. The other pool may have another type of
+    /// memory. This function allocates nothing.
     pub fn copy_from<Q: Room<OpenSlot> + Drop>(&mut self, other: &Pool<Q>)
         requires { length self.old.sent ≡ length other.now.sent }
         ensures { self.new ≡ other.now }
@@ -20,7 +21,7 @@ impl<O: Room<OpenSlot> + Drop> Pool<O> {
     }
 }
 
-// Makes slots the same as others, which are as many.
+// Copies slots into the same number of slots.
 fn copy_slots<O: Room<OpenSlot>, Q: Room<OpenSlot>>(slots: &mut O, others: &Q)
     requires { length (O.items slots.old) ≡ length (Q.items others.now) }
     ensures { O.items slots.new ≡ Q.items others.now }
@@ -30,7 +31,7 @@ fn copy_slots<O: Room<OpenSlot>, Q: Room<OpenSlot>>(slots: &mut O, others: &Q)
     }
 }
 
-// The same sends of each endpoint once more.
+// Returns a copy of the numbers of sends.
 fn sends_of(sent: &ArrayVec<u32, MOST_ENDPOINTS>) -> ArrayVec<u32, MOST_ENDPOINTS>
     ensures { result.items ≡ sent.now.items }
 {
@@ -42,7 +43,7 @@ fn sends_of(sent: &ArrayVec<u32, MOST_ENDPOINTS>) -> ArrayVec<u32, MOST_ENDPOINT
 }
 
 impl News {
-    /// What is told, once more: each of the two tells it once.
+    /// Returns a copy with the report of changed access. Each of the two then returns the report once.
     pub fn copy(&self) -> News
         ensures { result ≡ self.now }
     {

@@ -1,5 +1,5 @@
 // SPDX-License-Identifier: MIT OR Apache-2.0
-//! Calls whose descriptor stands in TX.
+//! Calls whose descriptor is in TX.
 ghost use Rattle.std.specs.Prelude.{◌≡◌, length, [], IfOk, Some};
 ghost use Rattle.std.specs.Result.{result_err};
 ghost use Rattle.ffa_model.specs.MemorySend.{transfer_guards};
@@ -16,30 +16,31 @@ use ffa_model::{EndpointId, Ffa, Refusal, Transfer, Version};
 use ffa_physmem::PhysMem;
 use ffa_rxtx::{Buffers, Mapped};
 
-/// A descriptor that stands whole in its caller's TX.
+/// The bytes of a descriptor that is whole in the caller's TX.
 #[derive(Drop)]
 pub(crate) struct Descriptor<'m, M: PhysMem> {
-    /// Its bytes, where they lie.
+    /// The bytes of the descriptor, in the pages of TX.
     pub(crate) bytes: PageRun<'m, M>,
     /// The caller's buffers.
     pub(crate) own: Mapped,
 }
 
-/// A call whose descriptor stands in TX.
+/// The parameters of a call whose descriptor is in TX.
 #[derive(Clone, Copy)]
 pub struct DescriptorCall {
-    /// Its registers.
+    /// The registers of the call.
     pub transfer: Transfer,
     /// The version of FF-A that the machine serves.
     pub ffa: Ffa,
-    /// The form in which its caller writes descriptors, and reads the answer to a retrieve.
+    /// The layout in which the caller writes descriptors, and reads the response of a retrieve.
     pub version: Version,
 }
 
 impl DescriptorCall {
     ghost use Rattle.ffa_rxtx.specs.Parts.{IsInRam};
 
-    // The caller's descriptor, or why it doesn't stand whole in TX.
+    // Returns the caller's descriptor. An error is the first check of the registers that fails: the caller has no
+    // buffers, or the registers do not say that the descriptor is whole in TX.
     pub(crate) fn descriptor<'m, M: PhysMem>(
         &self,
         ram: &'m M,
@@ -72,7 +73,8 @@ impl DescriptorCall {
         Ok(Descriptor { bytes, own })
     }
 
-    /// Whether the normal world of a machine of FF-A 1.2 asks, as a hypervisor, for what it sent.
+    /// Whether the call is a hypervisor's retrieve: the normal world of a machine of FF-A 1.2 requests what it sent.
+    /// The descriptor in its TX then has no access descriptor.
     pub fn asks_back<M: PhysMem>(&self, ram: &M, buffers: &Buffers, caller: EndpointId) -> bool
         requires tx { (b : Own) → buffers_in buffers.now caller.0 ≡ Some b → IsInRam (length (M.ram ram.now).pages) b }
         ensures { let descriptor = descriptor_in (M.ram ram.now) buffers.now caller.0 self.now in

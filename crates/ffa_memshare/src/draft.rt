@@ -1,25 +1,25 @@
 // SPDX-License-Identifier: MIT OR Apache-2.0
-//! Room for a call on memory.
+//! The room in which a call on memory works.
 ghost use Rattle.std.specs.Prelude.{◌≡◌, []};
 
 use crate::transaction::OpenTransaction;
 use arrayvec::ArrayVec;
 use ffa_model::{Data, EndpointId, Kind, Response, Rights, SendDesc};
 
-/// Room in which a send is read and checked, and from which a retrieve is answered. Its lists are large to clear and to
-/// move, so calls fill them in place.
+/// The room in which the library reads and checks a send, and builds the response of a retrieve. Its lists are costly
+/// to clear and to move, so calls fill them in place.
 #[derive(Drop)]
 pub struct Draft {
-    /// What the descriptor says.
+    /// The contents of the send descriptor.
     pub(crate) offer: SendDesc,
-    /// The transaction that it opens.
+    /// The transaction that the send opens.
     pub(crate) transaction: OpenTransaction,
-    /// What a retrieve is answered with.
+    /// The response of a retrieve.
     pub(crate) response: Response,
 }
 
 impl Draft {
-    /// Room that has nothing yet.
+    /// Returns room without contents.
     pub fn none() -> Draft
         ensures { result.transaction.ranges ≡ [] }
     {
@@ -30,7 +30,7 @@ impl Draft {
         }
     }
 
-    /// Clears the ranges of the offer. The next send then has none to clear.
+    /// Clears the ranges of the offer. The next send then has no ranges to clear.
     #[inline(always)]
     pub(crate) fn clear_offer(&mut self)
         ensures { self.new.transaction ≡ self.old.transaction }
@@ -39,7 +39,7 @@ impl Draft {
     }
 }
 
-// A response of no pages to nobody: room for another.
+// Returns a response without pages, for no endpoint. It is room for another response.
 fn no_response() -> Response {
     Response {
         sender: EndpointId::MANAGER,

@@ -1,13 +1,13 @@
 // SPDX-License-Identifier: MIT OR Apache-2.0
-//! What the checks of a call on memory find, for its effect.
+//! The results of the checks of calls on memory, which the calls then use.
 
 use ffa_model::Rights;
 use ffa_rxtx::Mapped;
 
-/// What a retrieve is done with.
+/// The results of the checks of a retrieve.
 #[derive(Clone, Copy, PartialEq, Eq)]
 pub struct FoundRight {
-    /// The slot of the transaction that is asked for.
+    /// The slot of the transaction that the caller retrieves.
     pub slot: usize,
     /// The right that the caller gets.
     pub right: Rights,
@@ -15,19 +15,19 @@ pub struct FoundRight {
     pub own: Mapped,
 }
 
-/// What a relinquish or a reclaim is done with.
+/// The results of the checks of a relinquish or a reclaim.
 #[derive(Clone, Copy, PartialEq, Eq)]
 pub struct FoundReturn {
-    /// The slot of the transaction that is given up, or that ends.
+    /// The slot of the transaction that the caller relinquishes or reclaims.
     pub slot: usize,
-    /// Whether its pages are to be zeros.
+    /// Whether the manager must zero the pages.
     pub zero: bool,
 }
 
-/// What a hypervisor's retrieve is done with.
+/// The results of the checks of a hypervisor's retrieve.
 #[derive(Clone, Copy, PartialEq, Eq)]
 pub struct FoundSent {
-    /// The slot of the transaction that is asked for.
+    /// The slot of the transaction that the caller reads back.
     pub slot: usize,
     /// The caller's buffers.
     pub own: Mapped,

@@ -1,5 +1,5 @@
 // SPDX-License-Identifier: MIT OR Apache-2.0
-//! Who holds an open transaction, and with which right.
+//! The endpoints that hold an open transaction, with their rights.
 ghost use Rattle.std.specs.Prelude.{◌≡◌, ◌<◌};
 ghost use Rattle.std.specs.FinMap as finite;
 ghost use Rattle.ffa_model.specs.declared.limits.TheConstants.{MOST_ENDPOINTS};
@@ -9,7 +9,7 @@ ghost use Rattle.ffa_memshare.specs.Held.{held_with};
 use ffa_model::{EndpointId, MOST_ENDPOINTS, Rights};
 use std::marker::Model;
 
-/// The right that each endpoint holds. It stands at the endpoint's place in the manifest.
+/// The right that each endpoint holds of a transaction. The right is stored at the endpoint's place in the manifest.
 #[derive(Drop)]
 pub struct Holders {
     rights: [Option<Rights>; MOST_ENDPOINTS],
@@ -36,7 +36,7 @@ impl Model for Holders {
 }
 
 impl Holders {
-    /// Nobody holds it.
+    /// Returns a value in which no endpoint holds a right.
     pub fn none() -> Holders
         ensures { result ≡ finite.empty }
     {
@@ -45,14 +45,14 @@ impl Holders {
         }
     }
 
-    /// Becomes the same as these.
+    /// Copies these rights into this value.
     pub fn fill(&mut self, others: &Holders)
         ensures { self.new ≡ others.now }
     {
         self.rights = others.rights;
     }
 
-    /// The right that an endpoint holds.
+    /// Returns the right that an endpoint holds, or `None`.
     pub fn of(&self, endpoint: EndpointId) -> Option<Rights>
         ensures { result ≡ finite.get self.now endpoint.0 }
     {
@@ -64,7 +64,7 @@ impl Holders {
         }
     }
 
-    /// Says which right an endpoint holds, or that it holds none.
+    /// Sets the right that an endpoint holds. With `None`, the endpoint holds no right.
     pub fn set(&mut self, endpoint: EndpointId, right: Option<Rights>)
         requires known { identifier (place endpoint.0) ≡ endpoint.0 }
         requires few { place endpoint.0 < MOST_ENDPOINTS }

@@ -1,5 +1,5 @@
 // SPDX-License-Identifier: MIT OR Apache-2.0
-//! Where one transaction may be open.
+//! A slot for one open transaction.
 ghost use Rattle.std.specs.Prelude.{◌≡◌, ◌<◌, Some, None, is_some, not};
 ghost use Rattle.std.specs.Option.{option_copied};
 ghost use Rattle.ffa_model.specs.declared.limits.TheConstants.{MOST_ENDPOINTS};
@@ -11,8 +11,8 @@ use crate::transaction::OpenTransaction;
 use ffa_model::{EndpointId, Rights};
 use std::marker::Model;
 
-/// Where one transaction may be open. It is filled in where it stands, since a transaction is large to move.
-/// Contracts see the transaction, if one is open.
+/// A slot for one open transaction. A call fills the slot in place, because a transaction is costly to move. Contracts
+/// see the open transaction, or `None`.
 #[derive(Drop)]
 pub struct OpenSlot {
     is_open: bool,
@@ -39,7 +39,7 @@ impl Default for OpenSlot {
 }
 
 impl OpenSlot {
-    /// A slot in which none is open.
+    /// Returns a slot without an open transaction.
     pub fn free() -> OpenSlot
         ensures { result ≡ None }
     {
@@ -49,7 +49,7 @@ impl OpenSlot {
         }
     }
 
-    // The transaction, if one is open.
+    // Returns the open transaction of the slot, or `None`.
     pub(crate) fn get(&self) -> Option<&OpenTransaction>
         ensures { option_copied result ≡ self.now }
     {
@@ -60,14 +60,14 @@ impl OpenSlot {
         }
     }
 
-    // Whether none is open.
+    // Whether the slot has no open transaction.
     pub(crate) fn is_free(&self) -> bool
         ensures { is_some self.now ≡ not result }
     {
         !self.is_open
     }
 
-    // Opens a transaction in place of what was there.
+    // Opens a transaction in the slot. It replaces the transaction of the slot.
     pub(crate) fn open(&mut self, transaction: &OpenTransaction)
         ensures { self.new ≡ Some transaction.now }
     {
@@ -75,7 +75,7 @@ impl OpenSlot {
         self.transaction.fill(transaction);
     }
 
-    // Becomes the same as another.
+    // Copies another slot into this slot.
     pub(crate) fn copy_from(&mut self, other: &OpenSlot)
         ensures { self.new ≡ other.now }
     {
@@ -85,7 +85,7 @@ impl OpenSlot {
         }
     }
 
-    // Says which right an endpoint holds of the transaction that is open, or that it holds none.
+    // Sets the right that an endpoint holds of the open transaction. With `None`, the endpoint holds no right.
     pub(crate) fn set_held(&mut self, endpoint: EndpointId, right: Option<Rights>)
         requires known { identifier (place endpoint.0) ≡ endpoint.0 }
         requires few { place endpoint.0 < MOST_ENDPOINTS }
@@ -95,7 +95,7 @@ impl OpenSlot {
         self.transaction.held.set(endpoint, right);
     }
 
-    // Closes the transaction, if one is open.
+    // Closes the open transaction, if the slot has one.
     pub(crate) fn close(&mut self)
         ensures { self.new ≡ None }
     {

@@ -1,5 +1,5 @@
 // SPDX-License-Identifier: MIT OR Apache-2.0
-//! Ranges of whole pages of RAM, as an open transaction keeps them.
+//! Ranges of whole pages of RAM, as an open transaction stores them.
 ghost use Rattle.std.specs.Prelude.{◌≡◌, ◌<◌, ◌≤◌, [], length, map, take, slice_index_or};
 ghost use Rattle.ffa_model.specs.declared.limits.TheConstants.{MOST_RANGES};
 ghost use Rattle.ffa_memshare.specs.PageRanges.{range_at};
@@ -11,8 +11,8 @@ use ffa_model::{Address, MOST_RANGES, Range, Room};
 use ffa_pages::{KeptPage, PageTable};
 use std::marker::Model;
 
-// A range by the number of its first page in RAM.
-// With 16 bits for each number a range would have 4 bytes instead of 8, but RAM could have at most 127 blocks.
+// A range, by the number of its first page in RAM. With 16 bits for each number a range would have 4 bytes instead of
+// 8. But RAM could then have at most 127 blocks.
 #[derive(Clone, Copy, Default)]
 pub(crate) struct PageRange {
     first: u32,
@@ -20,7 +20,7 @@ pub(crate) struct PageRange {
 }
 
 impl PageRange {
-    // A range of the RAM at an address.
+    // Returns a range of the RAM that begins at `base`.
     fn of<P: Room<KeptPage> + Drop>(pages: &PageTable<P>, base: Address, range: &Range) -> PageRange
         requires { IsPlaced base.0 (length pages.now) range.now }
         ensures { range_at base.0 result ≡ range.now }
@@ -43,14 +43,14 @@ impl PageRange {
     }
 }
 
-// Fills the first places with ranges. Later places keep what they had.
+// Stores ranges in the first places. Later places stay as they are.
 fn fill(places: &mut [PageRange; MOST_RANGES], ranges: &[PageRange])
     requires { length ranges.now ≤ MOST_RANGES }
     ensures ranges { take (length ranges.now) places.new ≡ ranges.now }
     ensures many { length places.new ≡ MOST_RANGES }
 {
     for place in 0..ranges.len() {
-        // Number by number, so that a compiler makes no call of memmove of a loop that mostly runs once.
+        // The numbers are copied one by one, so that a compiler does not call memmove. The loop mostly runs once.
         places[place] = PageRange {
             first: ranges[place].first,
             pages: ranges[place].pages,
@@ -58,7 +58,7 @@ fn fill(places: &mut [PageRange; MOST_RANGES], ranges: &[PageRange])
     }
 }
 
-// Fills the first places with ranges of pages of the RAM at an address.
+// Stores ranges in the first places. The ranges are in the RAM that begins at `base`.
 fn put<P: Room<KeptPage> + Drop>(
     places: &mut [PageRange; MOST_RANGES],
     pages: &PageTable<P>,
@@ -75,8 +75,8 @@ fn put<P: Room<KeptPage> + Drop>(
     }
 }
 
-/// Ranges of pages of one RAM, eight bytes for each: a transaction is small to keep and to move. Places after the last
-/// range keep what they had, so nothing is cleared. Contracts see the ranges.
+/// A list of ranges of pages of one RAM, with eight bytes for each range. So a transaction is small to store and to
+/// move. The places after the last range keep earlier contents, so nothing clears them. Contracts see the ranges.
 #[derive(Drop)]
 pub struct PageRanges {
     base: Address,
@@ -99,7 +99,7 @@ impl Model for PageRanges {
 }
 
 impl PageRanges {
-    /// Becomes these ranges, of pages of the RAM at an address.
+    /// Replaces the list by these ranges, which are in the RAM that begins at `base`.
     pub(crate) fn place<P: Room<KeptPage> + Drop>(
         &mut self,
         pages: &PageTable<P>,
@@ -114,7 +114,7 @@ impl PageRanges {
         self.count = ranges.len();
     }
 
-    // No ranges.
+    // Returns an empty list.
     pub(crate) fn none() -> PageRanges
         ensures { result ≡ [] }
     {
@@ -125,7 +125,7 @@ impl PageRanges {
         }
     }
 
-    // Becomes the same as these ranges.
+    // Copies these ranges into this list.
     pub(crate) fn fill(&mut self, ranges: &PageRanges)
         ensures { self.new ≡ ranges.now }
     {
@@ -134,7 +134,7 @@ impl PageRanges {
         self.count = ranges.count;
     }
 
-    /// The same ranges.
+    /// Returns a copy of the list.
     pub(crate) fn copy(&self) -> PageRanges
         ensures { result ≡ self.now }
     {
@@ -143,7 +143,7 @@ impl PageRanges {
         copy
     }
 
-    /// How many there are.
+    /// Returns the number of ranges.
     pub fn len(&self) -> usize
         ensures count { result ≡ length self.now }
         ensures few { result ≤ MOST_RANGES }
@@ -151,7 +151,7 @@ impl PageRanges {
         self.count
     }
 
-    /// The range at this place in their order, by its address.
+    /// Returns the range at this place in the list, counted from 0, with its address.
     pub fn at(&self, place: usize) -> Range
         requires { place < length self.now }
         ensures { (other : Range) → result ≡ slice_index_or self.now place other }
@@ -160,8 +160,8 @@ impl PageRanges {
         ranges[place].range(self.base)
     }
 
-    /// Puts each range by its address, in their order, into an empty list. The list is the caller's, since it
-    /// is large to move.
+    /// Puts each range with its address into an empty list, in order. The caller passes the list, because a list is
+    /// costly to move.
     pub(crate) fn list_in(&self, ranges: &mut ArrayVec<Range, MOST_RANGES>)
         requires { ranges.old.items ≡ [] }
         ensures { ranges.new.items ≡ self.now }

@@ -1,5 +1,5 @@
 // SPDX-License-Identifier: MIT OR Apache-2.0
-//! Bytes that stand in pages in a row.
+//! Bytes in consecutive pages of RAM.
 ghost use Rattle.std.specs.Prelude.{◌≡◌, ℕ, ◌+◌, ◌*◌, ◌≤◌, length, OnOk, IfErr, IfOk, IfSome};
 ghost use Rattle.std.specs.Option.{option_map};
 ghost use Rattle.std.specs.Result.{result_err, result_ok};
@@ -17,7 +17,7 @@ use ffa_model::{
 use ffa_physmem::{PAGE_SIZE, PhysMem};
 use std::marker::Model;
 
-/// The first bytes of pages in a row, read where they lie. Contracts see the bytes.
+/// The first bytes of consecutive pages, which readers read in RAM. Contracts see the bytes.
 #[derive(Drop)]
 pub(crate) struct PageRun<'m, M: PhysMem> {
     ram: &'m M,
@@ -41,7 +41,7 @@ impl<'m, M: PhysMem> PageRun<'m, M> {
     ghost use Rattle.ffa_rxtx.specs.Parts.{run_in};
     ghost use Rattle.ffa_memshare.specs.PageRuns.{run_front};
 
-    /// The first `len` bytes of this many pages from the first on.
+    /// Returns the first `len` bytes of `pages` pages, from the page `first` on.
     pub(crate) fn new(ram: &'m M, first: PageNo, pages: u32, len: usize) -> PageRun<'m, M>
         requires inside { first.0 + pages ≤ length (M.ram ram.now).pages }
         requires fits { len ≤ 4096 * pages }
@@ -62,7 +62,7 @@ impl<'m, M: PhysMem> PageRun<'m, M> {
         }
     }
 
-    /// The same bytes in one piece, where one page has them.
+    /// Returns the bytes as one slice, if they are in one page.
     pub(crate) fn in_one_page(&self) -> Option<&'m [u8]>
         ensures { IfSome result (λ bytes. bytes.now ≡ self.now) }
     {
@@ -87,8 +87,8 @@ impl<'m, M: PhysMem> Bytes for PageRun<'m, M> {
     }
 }
 
-/// Puts what the bytes say as a send descriptor of this kind, for a machine of this FF-A and from a caller of this
-/// version, in the place of an offer; else the first condition that they break. In one page they are read as a slice.
+/// Reads a send descriptor of this kind into an offer, if the bytes are one. The machine has this FF-A, and the caller
+/// has this version. Bytes in one page are read as a slice. An error is the first condition that the bytes break.
 #[inline(always)]
 pub(crate) fn read_send<M: PhysMem>(
     bytes: &PageRun<M>,
@@ -109,8 +109,8 @@ pub(crate) fn read_send<M: PhysMem>(
     }
 }
 
-/// What the bytes say as a retrieve descriptor for this endpoint, which has this version, on a machine of this FF-A; else a
-/// condition that they break.
+/// Returns the contents of a retrieve descriptor for this endpoint, if the bytes are one. The machine has this FF-A,
+/// and the endpoint has this version. An error is the first condition that the bytes break.
 #[inline(always)]
 pub(crate) fn read_retrieve<M: PhysMem>(
     bytes: &PageRun<M>,
@@ -129,7 +129,7 @@ pub(crate) fn read_retrieve<M: PhysMem>(
     }
 }
 
-/// Whether the bytes of a retrieve descriptor name one endpoint alone, or exactly these receivers.
+/// Whether a retrieve descriptor has one access descriptor, or names exactly these receivers.
 pub(crate) fn names_receivers<M: PhysMem>(
     bytes: &PageRun<M>,
     version: Version,
@@ -144,7 +144,8 @@ pub(crate) fn names_receivers<M: PhysMem>(
     }
 }
 
-/// What the bytes say as a relinquish descriptor of one endpoint; else a condition that they break.
+/// Returns the contents of a relinquish descriptor of one endpoint, if the bytes are one. An error is the first
+/// condition that the bytes break.
 #[inline(always)]
 pub(crate) fn read_relinquish<M: PhysMem>(bytes: &PageRun<M>) -> Result<RelinquishDesc, Flaw>
     ensures computed { result_ok result ≡ relinquish_of bytes.now }

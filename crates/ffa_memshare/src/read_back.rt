@@ -1,5 +1,6 @@
 // SPDX-License-Identifier: MIT OR Apache-2.0
-//! FFA_MEM_RETRIEVE_REQ of a hypervisor: the normal world of a machine of FF-A 1.2 reads back what it sent.
+//! FFA_MEM_RETRIEVE_REQ of a hypervisor: the normal world of a machine of FF-A 1.2 reads back what it sent (DEN0077A,
+//! 16).
 ghost use Rattle.std.specs.Prelude.{◌≡◌, ◌<◌, ◌^◌, ℕ, length, true, Some, IfOk, OnOk, OnErr};
 ghost use Rattle.std.specs.Result.{result_err};
 ghost use Rattle.ffa_model.specs.Buffers.{buffers_in, buffers_with_rx, is_full};
@@ -32,8 +33,8 @@ use ffa_rxtx::Buffers;
 use ffa_stage2::Layout;
 
 impl<O: Room<OpenSlot> + Drop> Pool<O> {
-    /// Whether the caller sent the open transaction that the descriptor in its TX asks for, and has room for the answer: the
-    /// transaction's slot.
+    /// Checks a hypervisor's FFA_MEM_RETRIEVE_REQ: the caller sent the open transaction that the descriptor in its TX
+    /// names, and its RX is not full. Returns the slot of the transaction, and the caller's buffers.
     ///
     /// # Errors
     ///
@@ -76,13 +77,16 @@ impl<O: Room<OpenSlot> + Drop> Pool<O> {
         Ok(FoundSent { slot, own })
     }
 
-    /// FFA_MEM_RETRIEVE_REQ of a hypervisor, which asks for what it sent: its RX tells the transaction with all receivers, and
-    /// nothing else changes. It gives the length of the answer.
+    /// Serves a hypervisor's FFA_MEM_RETRIEVE_REQ. Writes the transaction with all its receivers into the caller's RX,
+    /// which is then full. No other part of the state changes. Returns the size of the response in bytes.
     ///
     /// # Errors
     ///
-    /// In this order: `InvalidParameters` where a byte of the header other than the handle's isn't 0, and where no open transaction
-    /// of the caller has the handle; `Busy` where RX is full. An error changes nothing.
+    /// The first of these that applies. An error changes nothing.
+    ///
+    /// - `InvalidParameters`: a byte of the header other than the handle is not 0.
+    /// - `InvalidParameters`: no open transaction of the caller has the handle.
+    /// - `Busy`: the caller's RX is full.
     pub fn read_back<M: PhysMem, P: Room<KeptPage> + Drop>(
         &self,
         ram: &mut M,
@@ -119,7 +123,7 @@ impl<O: Room<OpenSlot> + Drop> Pool<O> {
 }
 
 impl OpenTransaction {
-    // It as it was sent.
+    // Returns the transaction as it was sent.
     fn sent(&self) -> SentTransaction
         ensures told { sent_transaction_record result ≡ sent_record self.now.handle (view_of self.now) }
         ensures receivers { result.receivers ≡ self.now.receivers }

@@ -1,6 +1,6 @@
 // SPDX-License-Identifier: MIT OR Apache-2.0
-//! Explains why a call on memory was refused, and who may still retrieve a page. This serves diagnostics alone. No call is done by
-//! it and nothing is changed, so who audits the core can skip it.
+//! Explains why a call on memory was refused, and which endpoints may still retrieve a page. This module serves
+//! diagnostics only. No call uses it and it changes nothing, so an auditor of the core can skip it.
 
 mod about;
 mod failing;

@@ -1,5 +1,5 @@
 // SPDX-License-Identifier: MIT OR Apache-2.0
-//! FFA_MEM_RECLAIM.
+//! FFA_MEM_RECLAIM: a sender ends its transaction.
 ghost use Rattle.ffa_rxtx.specs.Parts.{ownership_in};
 ghost use Rattle.std.specs.Prelude.{◌≡◌, ◌==◌, None, Some, IfOk, OnOk, OnErr, ℕ, Option};
 ghost use Rattle.std.specs.Result.{result_err};
@@ -32,15 +32,17 @@ use ffa_physmem::PhysMem;
 use ffa_stage2::Layout;
 
 impl<O: Room<OpenSlot> + Drop> Pool<O> {
-    /// FFA_MEM_RECLAIM of an endpoint, with w3: the transaction is open no more, its pages are the sender's
-    /// with its own right, and zeros where bit 0 of the word asks for it. The news say whose access changed:
-    /// the sender's, but nobody's of a share.
+    /// Serves FFA_MEM_RECLAIM of an endpoint. `flags` is the value of w3. The transaction with this handle is closed,
+    /// and the sender has its own right to the pages. If bit 0 of `flags` is set, the pages are zeros. The report of
+    /// changed access names the sender, or no endpoint if the transaction is a share.
     ///
     /// # Errors
     ///
-    /// In this order: `InvalidParameters` where the word is above 1 or no transaction of the caller with this
-    /// handle is open; `Denied` where a receiver holds it, or zeros are asked of a page whose own right isn't
-    /// rw. An error changes nothing.
+    /// The first of these that applies. An error changes nothing.
+    ///
+    /// - `InvalidParameters`: `flags` is above 1, or no open transaction of the caller has the handle.
+    /// - `Denied`: a receiver holds the transaction.
+    /// - `Denied`: the flags request zeros, and the sender's own right to a page does not allow writing.
     #[inline(always)]
     pub fn reclaim<M: PhysMem, P: Room<KeptPage> + Drop>(
         &mut self,

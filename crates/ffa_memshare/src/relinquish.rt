@@ -1,5 +1,5 @@
 // SPDX-License-Identifier: MIT OR Apache-2.0
-//! FFA_MEM_RELINQUISH.
+//! FFA_MEM_RELINQUISH: a receiver releases a transaction.
 ghost use Rattle.std.specs.Prelude.{◌≡◌, length, IfOk, OnOk, OnErr, ℕ, Bool, None, Option, Some};
 ghost use Rattle.std.specs.Result.{result_err};
 ghost use Rattle.ffa_model.specs.Buffers.{buffers_in};
@@ -35,16 +35,19 @@ use ffa_rxtx::Buffers;
 use ffa_stage2::Layout;
 
 impl<O: Room<OpenSlot> + Drop> Pool<O> {
-    /// FFA_MEM_RELINQUISH of an endpoint, with the descriptor in its TX: it holds the transaction no more and
-    /// has no right to the pages, which are zeros where the descriptor asks for it. The news say that the
-    /// caller's access to the pages changed.
+    /// Serves FFA_MEM_RELINQUISH of an endpoint, with the descriptor in its TX. The caller no longer holds the
+    /// transaction, and has no right to the pages. If the descriptor requests it, the pages are zeros. The report of
+    /// changed access names the caller.
     ///
     /// # Errors
     ///
-    /// In this order: `InvalidParameters` where the caller has no buffers, TX has no descriptor, it names
-    /// another endpoint than the caller, or no transaction with its handle is open that is offered to the
-    /// caller; `Denied` where the caller doesn't hold it, or zeros are asked of what the caller doesn't hold
-    /// in a lend with rw. An error changes nothing.
+    /// The first of these that applies. An error changes nothing.
+    ///
+    /// - `InvalidParameters`: the caller has no buffers.
+    /// - `InvalidParameters`: TX has no descriptor, or the descriptor names another endpoint than the caller.
+    /// - `InvalidParameters`: no open transaction with the handle has the caller as a receiver.
+    /// - `Denied`: the caller does not hold the transaction.
+    /// - `Denied`: the descriptor requests zeros, and the caller does not hold a lend with write access.
     #[inline(always)]
     pub fn relinquish<M: PhysMem, P: Room<KeptPage> + Drop>(
         &mut self,

@@ -1,5 +1,5 @@
 // SPDX-License-Identifier: MIT OR Apache-2.0
-//! The answers to retrieves, where their callers read them.
+//! Writes the responses of retrieves into RX.
 ghost use Rattle.std.specs.Prelude.{◌≡◌, ◌<◌, ◌^◌, length, true, Some, IsSomeAnd};
 ghost use Rattle.ffa_model.specs.Buffers.{buffers_in, buffers_with_rx};
 ghost use Rattle.ffa_model.specs.HypervisorRetrieve.{sent_transaction_record};
@@ -16,8 +16,8 @@ use ffa_model::{EndpointId, Response, SentTransaction, Version};
 use ffa_physmem::PhysMem;
 use ffa_rxtx::{Buffers, Mapped};
 
-/// Writes a response in this version to the start of RX of an endpoint with these buffers, says that RX is
-/// full, and answers how many bytes the response has. The other bytes of RX stay.
+/// Writes a response in this version to the start of RX of an endpoint with these buffers. RX is then full. Returns the
+/// size of the response in bytes. The other bytes of RX stay.
 pub fn deliver<M: PhysMem>(
     ram: &mut M,
     buffers: &mut Buffers,
@@ -46,8 +46,8 @@ pub fn deliver<M: PhysMem>(
     size as u32
 }
 
-/// Writes a transaction as it was sent, in this version, to the start of RX of an endpoint with these buffers, says that RX is full,
-/// and answers how many bytes that takes. The other bytes of RX stay.
+/// Writes a transaction as it was sent, in this version, to the start of RX of an endpoint with these buffers. RX is
+/// then full. Returns the size of the response in bytes. The other bytes of RX stay.
 pub fn deliver_sent<M: PhysMem>(
     ram: &mut M,
     buffers: &mut Buffers,

@@ -1,5 +1,5 @@
 // SPDX-License-Identifier: MIT OR Apache-2.0
-//! FFA_MEM_RETRIEVE_REQ.
+//! FFA_MEM_RETRIEVE_REQ: a receiver takes a transaction.
 ghost use Rattle.std.specs.Prelude.{ℕ, ◌≡◌, ◌≢◌, ◌<◌, length, true, is_some, Some, IfOk, OnOk, OnErr, Option};
 ghost use Rattle.std.specs.Result.{result_err};
 ghost use Rattle.ffa_model.specs.declared.limits.TheConstants.{MOST_ENDPOINTS};
@@ -44,16 +44,23 @@ use ffa_rxtx::Buffers;
 use ffa_stage2::Layout;
 
 impl<O: Room<OpenSlot> + Drop> Pool<O> {
-    /// FFA_MEM_RETRIEVE_REQ of an endpoint, with the descriptor in its TX: it holds the right that it asked
-    /// for, which the answer in its RX tells, and the pages of a donate are its own. It gives the length of
-    /// the answer. The news say that the caller's access to the pages changed.
+    /// Serves FFA_MEM_RETRIEVE_REQ of an endpoint, with the descriptor in its TX. The caller then has the right to the
+    /// pages that it requested, and the response in its RX states this right. The pages of a donate then belong to the
+    /// caller. Returns the size of the response in bytes. The report of changed access names the caller.
     ///
     /// # Errors
     ///
-    /// In this order: `InvalidParameters` where the caller has no buffers, the descriptor doesn't stand whole
-    /// in TX, the bytes are none, no transaction with its handle is open that is offered to the caller, or it
-    /// describes other receivers, another sender, tag or kind; `Denied` where the caller holds it already, or asks for more
-    /// than it may hold; `Busy` where RX is full. An error changes nothing.
+    /// The first of these that applies. An error changes nothing.
+    ///
+    /// - `InvalidParameters`: the caller has no buffers, or the registers do not say that the descriptor is whole in
+    ///   TX.
+    /// - `InvalidParameters`: the bytes in TX are not a retrieve descriptor for the caller.
+    /// - `InvalidParameters`: no open transaction with the handle has the caller as a receiver.
+    /// - `InvalidParameters`: on a machine of FF-A 1.2, the descriptor names several endpoints that are not exactly the
+    ///   receivers.
+    /// - `InvalidParameters`: the sender, the tag or the kind is not the transaction's.
+    /// - `Denied`: the caller holds the transaction already, or requests more than it may hold.
+    /// - `Busy`: the caller's RX is full.
     #[inline(always)]
     pub fn retrieve<M: PhysMem, P: Room<KeptPage> + Drop>(
         &mut self,
@@ -109,8 +116,8 @@ impl<O: Room<OpenSlot> + Drop> Pool<O> {
         Ok(Value::Size(size))
     }
 
-    // Notes that an endpoint holds the open transaction in a slot with this right. The pages of a donate are
-    // its own then, with this right, and the donate is open no more.
+    // Stores that an endpoint holds the open transaction in a slot with this right. The pages of a donate then belong
+    // to the endpoint with this right, and the donate is closed.
     fn take<P: Room<KeptPage> + Drop>(
         &mut self,
         pages: &mut PageTable<P>,
@@ -146,8 +153,9 @@ impl<O: Room<OpenSlot> + Drop> Pool<O> {
 }
 
 impl OpenTransaction {
-    // Gives an endpoint the right that was found to the pages, and tells the endpoint so in its RX, in its
-    // version. RX is full then. It answers how many bytes that takes. The response is filled in where it stands.
+    // Sets the right of an endpoint to the pages as the checks found it, and writes the response into the endpoint's
+    // RX. The response has the endpoint's version, and RX is then full. Returns the size of the response in bytes. The
+    // response is built in place.
     fn hand_over<M: PhysMem, P: Room<KeptPage> + Drop>(
         &self,
         ram: &mut M,

@@ -1,5 +1,5 @@
 // SPDX-License-Identifier: MIT OR Apache-2.0
-//! FFA_MEM_DONATE, FFA_MEM_LEND and FFA_MEM_SHARE.
+//! FFA_MEM_DONATE, FFA_MEM_LEND and FFA_MEM_SHARE: a sender opens a transaction.
 ghost use Rattle.std.specs.Prelude.{◌≤◌, ◌≡◌, ◌<◌, ℕ, length, None, IfOk, OnOk, OnErr, Bool, Option, Some};
 ghost use Rattle.std.specs.Result.{result_err};
 ghost use Rattle.arrayvec.specs.ArrayVec.{array_vec_len};
@@ -35,19 +35,25 @@ use ffa_rxtx::Buffers;
 use ffa_stage2::Layout;
 
 impl<O: Room<OpenSlot> + Drop> Pool<O> {
-    /// FFA_MEM_DONATE, FFA_MEM_LEND or FFA_MEM_SHARE of an endpoint, with the descriptor in its TX: the
-    /// transaction is open, and nobody holds it. The sender has no right to the pages, but keeps its own in a
-    /// share, and they are zeros where the descriptor asks for it. Returns the handle. The news say
-    /// whose access changed: the sender's, but nobody's where it shares.
+    /// Serves FFA_MEM_DONATE, FFA_MEM_LEND or FFA_MEM_SHARE of an endpoint, with the descriptor in its TX. The
+    /// transaction is then open, and no endpoint holds it. The sender keeps its own right to the pages of a share, and
+    /// otherwise has no right. If the descriptor requests it, the pages are zeros. Returns the handle. The report of
+    /// changed access names the sender, or no endpoint for a share.
     ///
     /// # Errors
     ///
-    /// In this order: `InvalidParameters` where the caller has no buffers, the registers don't say that the
-    /// descriptor stands whole in TX, TX has no descriptor of this kind, it names another sender than the
-    /// caller or a receiver that is no endpoint; `Denied` where a range isn't in RAM, a page isn't the
-    /// caller's, stands in an open transaction or is somebody's buffer, or has less itself than is granted or
-    /// than zeros need; `NoMemory` where `MOST_OPEN` transactions of the caller are open or it has made
-    /// `MOST_SENDS` sends. An error changes nothing.
+    /// The first of these that applies. An error changes nothing.
+    ///
+    /// - `InvalidParameters`: the caller has no buffers, or the registers do not say that the descriptor is whole in
+    ///   TX.
+    /// - `InvalidParameters`: the bytes in TX are not a send descriptor of this kind.
+    /// - `InvalidParameters`: the descriptor names another sender than the caller, or a receiver that is not an
+    ///   endpoint.
+    /// - `Denied`: a range is not in RAM.
+    /// - `Denied`: a page does not belong to the caller, or is in an open transaction or in a buffer of an endpoint.
+    /// - `Denied`: the sender's own right to a page is less than a grant or than zeros need.
+    /// - `Denied`: on a machine of FF-A 1.2, the pages are of both worlds, or secure pages go to the normal world.
+    /// - `NoMemory`: `MOST_OPEN` transactions of the caller are open, or the caller has made `MOST_SENDS` sends.
     #[inline(always)]
     pub fn send<M: PhysMem, P: Room<KeptPage> + Drop>(
         &mut self,
@@ -80,12 +86,12 @@ impl<O: Room<OpenSlot> + Drop> Pool<O> {
             let bytes = descriptor_in (M.ram ram.old) buffers.now caller.0 call.now in
             OnOk result (IsSent before after caller.0 call.now.ffa kind bytes news.new) }
 
-        // At each moment the walks of all endpoints at an address are those from before the call, or all are
-        // those from behind.
+        // After each step, take any address. The walks of all endpoints give their results from before the call or a
+        // translation fault. Or all give their results from after the call or a translation fault.
         ensures steps { OnlyMomentsFor layout.now (M.ram ram.old) (M.ram ram.new) (M.past ram.old) (M.past ram.new) }
         ensures ended { EndsSettledFor layout.now (M.ram ram.old) (M.ram ram.new) (M.past ram.new) }
 
-        // The work is what the ranges take that the descriptor names.
+        // The work is the work for the ranges that the descriptor names.
         ensures few { let base = layout.now.base.0 in let bytes = descriptor_in (M.ram ram.old) buffers.now caller.0 call.now in
             (offer : SendRecord) (access : ℕ → ℕ → Option Rights) (split : ℕ → Bool)
             → send_of call.now.ffa kind bytes ≡ Some offer → IsBuiltFor layout.now (M.ram ram.old) access

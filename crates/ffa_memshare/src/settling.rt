@@ -1,5 +1,5 @@
 // SPDX-License-Identifier: MIT OR Apache-2.0
-//! What translation units may hold no more once rights have ended.
+//! Settles pages of ranges: translation units then no longer hold rights that have ended.
 ghost use Rattle.std.specs.Prelude.{ℕ, ◌≡◌, true, List, Some, length};
 ghost use Rattle.ffa_physmem.specs.Moments.{IsSettledBy, Only, Step};
 ghost use Rattle.ffa_physmem.specs.Work.{AddsAtMost, settles_of};
@@ -10,7 +10,7 @@ use crate::page_ranges::PageRanges;
 use ffa_model::PageNo;
 use ffa_physmem::PhysMem;
 
-/// Settles the pages of these ranges in the tables of the endpoint at a place. RAM stays.
+/// Settles the pages of these ranges in the tables of the endpoint at place `index`. RAM does not change.
 pub fn settle<M: PhysMem>(ram: &mut M, ranges: &PageRanges, index: usize)
     requires { ArePlaced (M.ram ram.old).base (length (M.ram ram.old).pages) ranges.now }
     ensures ram { M.ram ram.new ≡ M.ram ram.old }

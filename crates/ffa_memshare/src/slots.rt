@@ -1,5 +1,5 @@
 // SPDX-License-Identifier: MIT OR Apache-2.0
-//! Slots whose memory is there for as many as there may be.
+//! Slots in memory that is enough for the greatest number of slots.
 ghost use Rattle.std.specs.Prelude.{◌≡◌, ◌≤◌, [], None, IfOk, replicate, vec_capacity};
 ghost use Rattle.ffa_memshare.specs.declared.pool.TheConstants.{MOST_SLOTS};
 ghost use Rattle.ffa_memshare.specs.Stored.{kept_slots};
@@ -9,8 +9,8 @@ use crate::pool::MOST_SLOTS;
 use ffa_model::Room;
 use std::alloc::{AllocError, Allocator};
 
-/// Slots in memory of an allocator that is enough for as many as there may be, however few there are. So it takes no memory to
-/// have others in their place.
+/// Slots in memory of an allocator. The memory is enough for `MOST_SLOTS` slots, even if there are fewer. So a change
+/// of the number of slots allocates nothing.
 #[derive(Drop)]
 pub struct Slots<A: Allocator> {
     list: Vec<OpenSlot, A>,
@@ -18,7 +18,7 @@ pub struct Slots<A: Allocator> {
 }
 
 impl<A: Allocator> Slots<A> {
-    // No slots.
+    // Returns an empty list of slots, with its memory.
     pub(crate) fn none(alloc: A) -> Result<Slots<A>, AllocError>
         ensures { IfOk result (λ slots. slots.list.items ≡ []) }
     {
@@ -26,7 +26,7 @@ impl<A: Allocator> Slots<A> {
         Ok(Slots { list })
     }
 
-    // Makes it this many free slots.
+    // Makes the list a list of this number of free slots.
     pub(crate) fn free(&mut self, count: usize)
         requires { count ≤ MOST_SLOTS }
         ensures { kept_slots self.new.list.items ≡ replicate count None }

@@ -1,5 +1,5 @@
 // SPDX-License-Identifier: MIT OR Apache-2.0
-//! One open transaction.
+//! An open transaction.
 ghost use Rattle.ffa_rxtx.specs.Parts.{ownership_in};
 ghost use Rattle.std.specs.Prelude.{◌≡◌, ◌==◌, [], length, find, Some, None, ℕ, Bool, Option};
 ghost use Rattle.ffa_model.specs.declared.transaction.Receiver.{Receiver as Named};
@@ -37,7 +37,7 @@ use ffa_pages::{KeptPage, PageTable};
 use ffa_physmem::PhysMem;
 use ffa_stage2::Layout;
 
-/// A transaction that is open.
+/// An open transaction: what a sender offers to receivers, and the rights that receivers hold of it.
 #[derive(Drop)]
 pub struct OpenTransaction {
     pub(crate) handle: u64,
@@ -51,7 +51,7 @@ pub struct OpenTransaction {
     pub(crate) held: Holders,
 }
 
-// The same receivers.
+// Returns a copy of the receivers.
 pub(crate) fn copy_of(
     receivers: &ArrayVec<Receiver, MOST_RECEIVERS>,
 ) -> ArrayVec<Receiver, MOST_RECEIVERS>
@@ -67,7 +67,7 @@ pub(crate) fn copy_of(
 impl OpenTransaction {
     ghost use Rattle.ffa_memshare.specs.Stored.{view_of};
 
-    // One of no pages, which is offered to nobody: room for another.
+    // Returns a transaction without pages and receivers. It is room for another transaction.
     pub(crate) fn none() -> OpenTransaction
         ensures { result.ranges ≡ [] }
     {
@@ -84,8 +84,8 @@ impl OpenTransaction {
         }
     }
 
-    // Becomes what a sender offers with this handle, of memory that is told to be non-secure or isn't. The ranges stand
-    // here already.
+    // Makes this the transaction of an offer with this handle. `normal` is whether responses say that the memory is
+    // non-secure. The ranges of the offer are in this transaction already.
     pub(crate) fn offer(&mut self, handle: u64, kind: Kind, normal: bool, offer: &SendDesc)
         ensures handle { self.new.handle ≡ handle }
         ensures offered { self.old.ranges ≡ offer.now.ranges.items
@@ -101,7 +101,7 @@ impl OpenTransaction {
         self.held = Holders::none();
     }
 
-    // Becomes the same as another. It is filled in where it stands, by as many ranges as there are.
+    // Copies another transaction into this one. It copies only the ranges that the other transaction has.
     pub(crate) fn fill(&mut self, other: &OpenTransaction)
         ensures { self.new ≡ other.now }
     {
@@ -116,7 +116,7 @@ impl OpenTransaction {
         self.held.fill(&other.held);
     }
 
-    // What it says of a receiver.
+    // Returns the receiver entry of an endpoint, or `None` if the endpoint is not a receiver.
     pub(crate) fn receiver(&self, endpoint: EndpointId) -> Option<Receiver>
         ensures { result ≡ find (λ (r : Named). r.endpoint.0 == endpoint.0) self.now.receivers.items }
     {
@@ -127,7 +127,7 @@ impl OpenTransaction {
             .find(|receiver| receiver.endpoint == endpoint)
     }
 
-    // Whether it is offered to an endpoint.
+    // Whether an endpoint is a receiver of the transaction.
     #[tactic(auto, using(crate::proofs::Receivers::found_any))]
     pub(crate) fn is_receiver(&self, endpoint: EndpointId) -> bool
         ensures { result ≡ is_receiver endpoint.0 (view_of self.now) }
@@ -135,14 +135,15 @@ impl OpenTransaction {
         self.receiver(endpoint).is_some()
     }
 
-    // The right that an endpoint holds.
+    // Returns the right that an endpoint holds, or `None`.
     pub(crate) fn held_right(&self, endpoint: EndpointId) -> Option<Rights>
         ensures { result ≡ held_by (view_of self.now) endpoint.0 }
     {
         self.held.of(endpoint)
     }
 
-    // What an endpoint may do with one of its pages, to which the sender's own right is this.
+    // Returns the right of an endpoint to a page of the transaction, or `None`. `own_right` is the sender's own right
+    // to this page.
     pub(crate) fn right_to(&self, endpoint: EndpointId, own_right: Rights) -> Option<Rights>
         ensures { let transaction = view_of self.now in (page : Page) → page.own_right ≡ own_right
             → result ≡ right_by endpoint.0 page transaction (held_by transaction endpoint.0) }
@@ -157,7 +158,7 @@ impl OpenTransaction {
         }
     }
 
-    // What all its pages have.
+    // Returns what the owners of all pages of the transaction may do with them.
     pub(crate) fn common<P: Room<KeptPage> + Drop>(
         &self,
         pages: &PageTable<P>,
@@ -170,7 +171,7 @@ impl OpenTransaction {
         common_of(pages, base, &self.ranges)
     }
 
-    // Gives its pages back to the sender, who has its own right to them, and zeros where that is asked.
+    // Returns the pages to the sender, which then has its own right to them. If `zero` is true, the pages are zeros.
     pub(crate) fn give_back<M: PhysMem, P: Room<KeptPage> + Drop>(
         &self,
         ram: &mut M,
@@ -197,8 +198,8 @@ impl OpenTransaction {
         mark_all(pages, layout.base, ranges, Mark::Named(None));
     }
 
-    // Takes its pages from the sender, who keeps its own right to them in a share alone: they are marked with
-    // the slot, and zeros where that is asked.
+    // Takes the pages from the sender, which keeps its own right to them only in a share. The pages are marked with the
+    // slot. If the offer requests it, the pages are zeros.
     pub(crate) fn take_pages<M: PhysMem, P: Room<KeptPage> + Drop>(
         &self,
         ram: &mut M,
@@ -228,7 +229,7 @@ impl OpenTransaction {
     }
 }
 
-// What a sender keeps: of a share its own right, and else nothing.
+// Returns the right that a sender keeps to its pages. It is its own right in a share, and otherwise no right.
 fn right_after(kind: Kind) -> NewRight
     ensures { result ≡ right_after kind }
 {

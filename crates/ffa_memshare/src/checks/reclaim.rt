@@ -18,8 +18,8 @@ use ffa_model::{Address, EndpointId, Handle, Refusal, Room};
 use ffa_pages::{KeptPage, PageTable};
 
 impl<O: Room<OpenSlot> + Drop> Pool<O> {
-    /// Whether an endpoint may reclaim the transaction with this handle, with w3: its slot, and whether zeros
-    /// are asked.
+    /// Checks that an endpoint may reclaim the transaction with this handle. `flags` is the value of w3. Returns the
+    /// slot of the transaction, and whether the flags request zeros.
     ///
     /// # Errors
     ///
@@ -58,7 +58,8 @@ impl<O: Room<OpenSlot> + Drop> Pool<O> {
 impl OpenTransaction {
     ghost use Rattle.ffa_memshare.specs.Stored.{view_of};
 
-    // Whether its sender may end it, with flags that are known, or why not.
+    // Checks that the caller may end the transaction, with flags that are 0 or 1. An error is the first check that
+    // fails.
     fn check_reclaim<P: Room<KeptPage> + Drop>(
         &self,
         pages: &PageTable<P>,
@@ -83,7 +84,7 @@ impl OpenTransaction {
         Ok(())
     }
 
-    // Whether no receiver holds it.
+    // Whether no receiver holds the transaction.
     fn is_unheld(&self) -> bool
         ensures { result ≡ is_unheld (Some (view_of self.now)) }
     {

@@ -1,5 +1,5 @@
 // SPDX-License-Identifier: MIT OR Apache-2.0
-//! The checks of FFA_MEM_RELINQUISH: whether an endpoint may give up what it asks to.
+//! The checks of FFA_MEM_RELINQUISH: whether an endpoint may release a transaction.
 ghost use Rattle.std.specs.Prelude.{◌≡◌, ℕ, List, length, Some, IfOk};
 ghost use Rattle.std.specs.FinMap as finite;
 ghost use Rattle.std.specs.Result.{result_err};
@@ -22,8 +22,8 @@ use ffa_physmem::PhysMem;
 use ffa_rxtx::Buffers;
 
 impl<O: Room<OpenSlot> + Drop> Pool<O> {
-    /// Whether an endpoint may give up what the descriptor in its TX says: the transaction's slot, and
-    /// whether zeros are asked.
+    /// Checks that an endpoint may relinquish as the descriptor in its TX says. Returns the slot of the transaction,
+    /// and whether the descriptor requests zeros.
     ///
     /// # Errors
     ///
@@ -51,7 +51,7 @@ impl<O: Room<OpenSlot> + Drop> Pool<O> {
         self.check_given_up(caller, &asked)
     }
 
-    // Whether an endpoint may give up what it asks to.
+    // Checks that an endpoint may relinquish as a descriptor says. An error is the first check that fails.
     pub(crate) fn check_given_up(
         &self,
         caller: EndpointId,
@@ -79,7 +79,7 @@ impl<O: Room<OpenSlot> + Drop> Pool<O> {
 impl OpenTransaction {
     ghost use Rattle.ffa_memshare.specs.Stored.{view_of};
 
-    // Whether an endpoint may give it up as it asks to itself, or why not.
+    // Checks that an endpoint may relinquish this transaction for itself. An error is the first check that fails.
     fn check_relinquish(&self, caller: EndpointId, asked: &RelinquishDesc) -> Result<(), Refusal>
         requires { asked.now.endpoint.0 ≡ caller.0 }
         ensures { result_err result ≡ first_refusal (holder_guards caller.0 asked.now (Some (view_of self.now))) }
@@ -96,7 +96,7 @@ impl OpenTransaction {
         Ok(())
     }
 
-    // Whether an endpoint may fill the pages with zeros: it holds a lend, and may write to them.
+    // Whether an endpoint may request zeros in the pages. It must hold a lend, and be allowed to write to the pages.
     fn is_zeroable(&self, endpoint: EndpointId) -> bool
         ensures { result ≡ is_zeroable endpoint.0 (Some (view_of self.now)) }
     {

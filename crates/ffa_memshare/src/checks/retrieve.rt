@@ -1,5 +1,5 @@
 // SPDX-License-Identifier: MIT OR Apache-2.0
-//! The checks of FFA_MEM_RETRIEVE_REQ: what a receiver asks for, and the most that it may hold.
+//! The checks of FFA_MEM_RETRIEVE_REQ: the right that a receiver requests, and the greatest right that it may hold.
 ghost use Rattle.ffa_rxtx.specs.Parts.{ownership_in};
 ghost use Rattle.std.specs.Prelude.{◌≡◌, ℕ, length, true, is_some, OnOk, IfOk, IfSome, Some};
 ghost use Rattle.std.specs.FinMap as finite;
@@ -34,8 +34,8 @@ use ffa_rxtx::Buffers;
 use ffa_stage2::Layout;
 
 impl<O: Room<OpenSlot> + Drop> Pool<O> {
-    /// Whether an endpoint may take what the descriptor in its TX asks for: the transaction's slot, and the
-    /// right that the endpoint gets.
+    /// Checks that an endpoint may retrieve what the descriptor in its TX requests. Returns the slot of the
+    /// transaction, the right that the endpoint gets, and the caller's buffers.
     ///
     /// # Errors
     ///
@@ -67,7 +67,7 @@ impl<O: Room<OpenSlot> + Drop> Pool<O> {
         self.check_asked(pages, layout.base, call, &found, caller, &asked)
     }
 
-    // Whether an endpoint may take what the descriptor in its TX asks for.
+    // Checks that an endpoint may retrieve what a descriptor requests. An error is the first check that fails.
     #[inline(always)]
     pub(crate) fn check_asked<M: PhysMem, P: Room<KeptPage> + Drop>(
         &self,
@@ -101,7 +101,8 @@ impl<O: Room<OpenSlot> + Drop> Pool<O> {
 impl OpenTransaction {
     ghost use Rattle.ffa_memshare.specs.Stored.{view_of};
 
-    // The data right that an endpoint is granted, if the transaction is offered to it: ro where none is named.
+    // Returns the data right that the sender grants to an endpoint, or `None` if the endpoint is not a receiver. If the
+    // sender names no right, the result is read-only.
     #[tactic(auto, using(crate::proofs::Receivers::found_any))]
     pub(crate) fn grant_to(&self, endpoint: EndpointId) -> Option<Data>
         ensures known { is_some result ≡ is_receiver endpoint.0 (view_of self.now) }
@@ -111,7 +112,7 @@ impl OpenTransaction {
         Some(receiver.grant.unwrap_or(Data::Ro))
     }
 
-    // The most that an endpoint may hold that is granted this data right.
+    // Returns the greatest right that an endpoint may hold, if the sender grants this data right to it.
     pub(crate) fn ceiling<P: Room<KeptPage> + Drop>(
         &self,
         pages: &PageTable<P>,
@@ -135,7 +136,7 @@ impl OpenTransaction {
         }
     }
 
-    // The right that an endpoint gets by the descriptor in its TX, or why it gets none.
+    // Returns the right that an endpoint gets by the descriptor in its TX. An error is the first check that fails.
     fn check_retrieve<M: PhysMem, P: Room<KeptPage> + Drop>(
         &self,
         pages: &PageTable<P>,
@@ -183,7 +184,8 @@ impl OpenTransaction {
         Ok(right)
     }
 
-    // Whether the descriptor names whom it has to name: on a machine of FF-A 1.2 the caller alone, or exactly the receivers.
+    // Whether the descriptor names the correct endpoints. On a machine of FF-A 1.2, it must name only the caller, or
+    // exactly the receivers.
     #[inline(always)]
     fn is_named_right<M: PhysMem>(&self, call: &DescriptorCall, descriptor: &Descriptor<M>) -> bool
         requires { IsHeader (in_version call.now.version descriptor.now.bytes) }
@@ -199,7 +201,8 @@ impl OpenTransaction {
     }
 }
 
-// What is asked: data that aren't specified are the most, and instructions that aren't are not executed.
+// Returns the right that a retrieve requests. If the descriptor does not specify the data right, it is the greatest
+// one. If it does not specify the instruction right, the pages are not executable.
 pub(crate) fn asked_right(most: Rights, asked: &RetrieveDesc) -> Rights
     ensures { result ≡ asked_right most asked.now }
 {
@@ -209,7 +212,7 @@ pub(crate) fn asked_right(most: Rights, asked: &RetrieveDesc) -> Rights
     }
 }
 
-// Whether a right is no more than another.
+// Whether a right is at most another right.
 fn is_at_most(right: Rights, most: Rights) -> bool
     ensures { result ≡ is_at_most right most }
 {
@@ -220,7 +223,7 @@ fn is_at_most(right: Rights, most: Rights) -> bool
     is_less && (!right.exec || most.exec)
 }
 
-// Whether a kind is the one that is asked for. One that isn't specified is any.
+// Whether a retrieve may name this kind. If it specifies no kind, each kind is correct.
 fn is_kind_right(kind: Kind, asked: Option<Kind>) -> bool
     ensures { result ≡ is_kind_right kind asked }
 {

@@ -46,8 +46,8 @@ use ffa_rxtx::Buffers;
 use ffa_stage2::Layout;
 
 impl<O: Room<OpenSlot> + Drop> Pool<O> {
-    /// Whether an endpoint may send what the descriptor in its TX offers: the free slot for the transaction
-    /// that it opens, which stands in the draft then.
+    /// Checks that an endpoint may send what the descriptor in its TX offers. Returns a free slot for the transaction.
+    /// The draft then has the transaction.
     ///
     /// # Errors
     ///
@@ -92,8 +92,8 @@ impl<O: Room<OpenSlot> + Drop> Pool<O> {
         )
     }
 
-    // Whether an endpoint may send an offer that a descriptor made: the free slot for the transaction, which stands in place of
-    // another then.
+    // Checks that an endpoint may send an offer, and makes the transaction of the offer. Returns a free slot for the
+    // transaction. An error is the first check that fails.
     pub(crate) fn check_offered<P: Room<KeptPage> + Drop>(
         &self,
         layout: &Layout,
@@ -129,7 +129,7 @@ impl<O: Room<OpenSlot> + Drop> Pool<O> {
     }
 }
 
-// Whether all receivers are endpoints, of this many.
+// Whether all receivers are endpoints of a machine with this number of endpoints.
 fn are_known(receivers: &[Receiver], endpoints: usize) -> bool
     ensures { result ≡ are_known endpoints receivers.now }
 {
@@ -138,7 +138,7 @@ fn are_known(receivers: &[Receiver], endpoints: usize) -> bool
         .all(|receiver| receiver.endpoint.is_among(endpoints))
 }
 
-// Whether a range lies in the RAM of these pages.
+// Whether a range is in the RAM of these pages.
 pub(crate) fn is_inside<P: Room<KeptPage> + Drop>(
     range: &Range,
     pages: &PageTable<P>,
@@ -152,7 +152,7 @@ pub(crate) fn is_inside<P: Room<KeptPage> + Drop>(
     start <= range.address && range.address <= end && size <= end - range.address
 }
 
-// Whether all ranges do.
+// Whether all ranges are in the RAM of these pages.
 fn are_inside<P: Room<KeptPage> + Drop>(
     ranges: &[Range],
     pages: &PageTable<P>,
@@ -163,7 +163,7 @@ fn are_inside<P: Room<KeptPage> + Drop>(
     ranges.iter().all(|range| is_inside(range, pages, base))
 }
 
-// Whether a page is an endpoint's, and no open transaction names it.
+// Whether a page belongs to an endpoint, and no open transaction names it.
 pub(crate) fn is_own<P: Room<KeptPage> + Drop>(
     pages: &PageTable<P>,
     sender: EndpointId,
@@ -177,7 +177,8 @@ pub(crate) fn is_own<P: Room<KeptPage> + Drop>(
         && pages.slot_of(page).is_none()
 }
 
-// What a send asks of pages: whether their endpoint may send all, and whether it may write to all itself.
+// The facts that a send needs of pages: whether the endpoint may send all of them, and whether it may write to all of
+// them itself.
 #[derive(Clone, Copy)]
 struct Looked {
     is_sendable: bool,
@@ -185,7 +186,7 @@ struct Looked {
 }
 
 impl Looked {
-    // What both these pages and others are.
+    // Returns what is true of all pages of both.
     fn and(self, other: Looked) -> Looked
         ensures sendable { result.is_sendable ≡ (self.is_sendable && other.is_sendable) }
         ensures writable { result.is_writable ≡ (self.is_writable && other.is_writable) }
@@ -197,7 +198,8 @@ impl Looked {
     }
 }
 
-// Whether an endpoint may send the pages of a range, and write to them. Each page is looked at once.
+// Returns whether an endpoint may send the pages of a range, and whether their owners may write to them. It looks at
+// the entry of each page at most once.
 fn look_at_range<P: Room<KeptPage> + Drop>(
     pages: &PageTable<P>,
     base: Address,
@@ -231,8 +233,9 @@ fn look_at_range<P: Room<KeptPage> + Drop>(
     }
 }
 
-// Whether an endpoint may send the pages of these ranges, and write to them.
-// Owner, open transaction and buffer are one check with one name. Three names would need three passes over the pages.
+// Returns whether an endpoint may send the pages of these ranges, and whether their owners may write to them. The
+// owner, the open transaction and the buffer are one check with one name. Three names would need three passes over the
+// pages.
 fn look_at<P: Room<KeptPage> + Drop>(
     pages: &PageTable<P>,
     base: Address,
@@ -255,7 +258,7 @@ fn look_at<P: Room<KeptPage> + Drop>(
     looked
 }
 
-// Whether somebody is granted rw.
+// Whether a receiver is granted rw.
 fn grants_writes(receivers: &[Receiver]) -> bool
     ensures { result ≡ grants_writes receivers.now }
 {
@@ -264,16 +267,16 @@ fn grants_writes(receivers: &[Receiver]) -> bool
         .any(|receiver| receiver.grant == Some(Data::Rw))
 }
 
-// Whether zeros are asked or somebody is granted rw.
+// Whether the offer requests zeros, or grants rw to a receiver.
 fn asks_for_writes(offer: &SendDesc) -> bool
     ensures { result ≡ (offer.now.zero || grants_writes offer.now.receivers.items) }
 {
     offer.zero || grants_writes(offer.receivers.as_slice())
 }
 
-// Whether the pages that are offered have rw themselves, where that is asked for, or what it is asked for.
-// These are two checks in one, since both ask for rw of all pages: where a page lacks it, the first of them fails exactly if
-// somebody is granted rw.
+// Checks that the sender's own right to all pages is rw, if the offer needs it. An error is what the offer needs it
+// for. These are two checks in one, because both need rw of all pages. If the right to a page is not rw, the first of
+// the two fails exactly if the offer grants rw to a receiver.
 fn check_writes(offer: &SendDesc, is_writable: bool) -> Result<(), Refusal>
     ensures { (table : List (Option Entry)) (base e : ℕ) → IsOwnOffer table base e (send_record offer.now)
         → is_writable ≡ are_writable (ownership_in table base) offer.now.ranges.items
@@ -291,7 +294,8 @@ fn check_writes(offer: &SendDesc, is_writable: bool) -> Result<(), Refusal>
     Err(Refusal::ZerosUnwritable)
 }
 
-// Puts the ranges of what an endpoint offers in the place of others, where it may send that, or says why it may not.
+// Checks that an endpoint may send an offer, and replaces `ranges` by the ranges of the offer. An error is the first
+// check that fails.
 fn check_offer<P: Room<KeptPage> + Drop>(
     offer: &SendDesc,
     layout: &Layout,

@@ -1,5 +1,6 @@
 // SPDX-License-Identifier: MIT OR Apache-2.0
-//! Where worlds are told apart: whether pages are of one world, and whether that is told.
+//! The check of worlds: the pages of a send are of one world. It also finds whether the responses say that the pages
+//! are non-secure.
 ghost use Rattle.std.specs.Prelude.{◌≡◌, ℕ, not, ◌&&◌, length, IfOk};
 ghost use Rattle.std.specs.Result.{result_err};
 ghost use Rattle.ffa_model.specs.Calls.{first_refusal};
@@ -17,16 +18,16 @@ use ffa_model::{EndpointId, PageNo, Range, Receiver, Refusal, Room};
 use ffa_pages::{KeptPage, PageTable};
 use ffa_stage2::Layout;
 
-// Of which worlds pages are.
+// The worlds of some pages.
 #[derive(Clone, Copy)]
 struct WorldsOf {
-    // All are non-secure.
+    // All pages are non-secure.
     are_normal: bool,
-    // None is.
+    // No page is non-secure.
     are_secure: bool,
 }
 
-// Of which worlds these pages and those of a range are.
+// Returns the worlds of these pages and of the pages of a range.
 fn worlds_with<P: Room<KeptPage> + Drop>(
     layout: &Layout,
     pages: &PageTable<P>,
@@ -55,7 +56,7 @@ fn worlds_with<P: Room<KeptPage> + Drop>(
     worlds
 }
 
-// Of which worlds the pages of these ranges are.
+// Returns the worlds of the pages of these ranges.
 fn worlds_of<P: Room<KeptPage> + Drop>(
     layout: &Layout,
     pages: &PageTable<P>,
@@ -79,7 +80,7 @@ fn worlds_of<P: Room<KeptPage> + Drop>(
     worlds
 }
 
-// Whether the normal world is among the receivers.
+// Whether the normal world is one of the receivers.
 fn names_normal_world(receivers: &[Receiver]) -> bool
     ensures { result ≡ is_named 0 receivers.now }
 {
@@ -88,10 +89,10 @@ fn names_normal_world(receivers: &[Receiver]) -> bool
         .any(|receiver| receiver.endpoint == EndpointId::NORMAL_WORLD)
 }
 
-// Whether the pages that are offered to these receivers are told to be non-secure, or why worlds forbid the offer. Where
-// worlds aren't told apart no page is looked at.
-// This check is about all pages and receivers together, so it follows the checks of single pages. If it were a part of
-// `PageUnsendable`, that name would not mention worlds.
+// Returns whether responses say that the pages are non-secure. If the machine does not distinguish worlds, the result
+// is false, and the function looks at no page. An error is `WorldsMixed`. This check is about all pages and receivers
+// together, so it follows the checks of single pages. If it were a part of `PageUnsendable`, that name would not
+// mention worlds.
 pub(crate) fn check_worlds<P: Room<KeptPage> + Drop>(
     layout: &Layout,
     pages: &PageTable<P>,

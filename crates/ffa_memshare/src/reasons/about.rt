@@ -1,5 +1,6 @@
 // SPDX-License-Identifier: MIT OR Apache-2.0
-//! Explains a check that refuses a call on memory by what the call names: a descriptor in TX, or the handle of a transaction.
+//! Explains a check that refuses a call on memory. The explanation is about what the call names: a descriptor in TX, or
+//! the handle of a transaction.
 ghost use Rattle.std.specs.Prelude.{◌≡◌, Some, None, find, is_some, length, not, true, if◌then◌else◌};
 ghost use Rattle.std.specs.Option.{option_and_then, option_map};
 ghost use Rattle.std.specs.FinMap as finite;
@@ -50,13 +51,14 @@ use ffa_physmem::PhysMem;
 use ffa_rxtx::Buffers;
 use ffa_stage2::Layout;
 
-// The field of a header with the number of receivers.
+// The field of a header that has the number of receivers.
 const COUNT: FieldPlace = FieldPlace { first: 28, size: 4 };
 
 impl<O: Room<OpenSlot> + Drop> Pool<O> {
-    /// The first check of FFA_MEM_DONATE, FFA_MEM_LEND or FFA_MEM_SHARE of an endpoint that fails. With it the field of which a
-    /// condition is broken, or an endpoint that the descriptor names, or the first page that it names and that fails the check.
-    /// Of ranges outside RAM the first page outside, and of pages of both worlds whether all are secure.
+    /// Returns the first check of FFA_MEM_DONATE, FFA_MEM_LEND or FFA_MEM_SHARE of an endpoint that fails, or `None`.
+    /// With it, returns the field of a broken condition, an endpoint that the descriptor names, or the first page that
+    /// fails the check. If a range is outside RAM, returns its first address outside RAM. If pages are of the wrong
+    /// world, returns whether all of them are secure.
     pub fn why_send<M: PhysMem, P: Room<KeptPage> + Drop>(
         &self,
         ram: &M,
@@ -103,8 +105,9 @@ impl<O: Room<OpenSlot> + Drop> Pool<O> {
         Some((refusal, told))
     }
 
-    /// The first check of FFA_MEM_RETRIEVE_REQ of an endpoint that fails. With it the field of which a condition is broken, or an
-    /// endpoint or a handle that the descriptor names, and what the transaction has instead.
+    /// Returns the first check of FFA_MEM_RETRIEVE_REQ of an endpoint that fails, or `None`. With it, returns the field
+    /// of a broken condition, or an endpoint or a handle that the descriptor names, and what the transaction has
+    /// instead.
     pub fn why_retrieve<M: PhysMem, P: Room<KeptPage> + Drop>(
         &self,
         ram: &M,
@@ -147,8 +150,8 @@ impl<O: Room<OpenSlot> + Drop> Pool<O> {
         }
     }
 
-    /// The first check of a hypervisor's FFA_MEM_RETRIEVE_REQ that fails. With it the header that is not 0, or the handle and who
-    /// sent that transaction.
+    /// Returns the first check of a hypervisor's FFA_MEM_RETRIEVE_REQ that fails, or `None`. With it, returns the
+    /// header that is not 0, or the handle and the sender of its transaction.
     pub fn why_read_back<M: PhysMem, P: Room<KeptPage> + Drop>(
         &self,
         ram: &M,
@@ -191,7 +194,9 @@ impl<O: Room<OpenSlot> + Drop> Pool<O> {
         Some((refusal, told))
     }
 
-    /// The first check of FFA_MEM_RELINQUISH of an endpoint that fails, explained in the same way.
+    /// Returns the first check of FFA_MEM_RELINQUISH of an endpoint that fails, or `None`. With it, returns the field
+    /// of a broken condition, or an endpoint or a handle that the descriptor names, and what the transaction has
+    /// instead.
     pub fn why_relinquish<M: PhysMem>(
         &self,
         ram: &M,
@@ -220,7 +225,7 @@ impl<O: Room<OpenSlot> + Drop> Pool<O> {
                 let told = Explained::of(named_by_relinquish(&asked, refusal), mend);
                 Some((refusal, told))
             }
-            // A relinquish has one form in both versions.
+            // A relinquish descriptor has one layout in all versions.
             Err(flaw) => {
                 let about = about_field(&bytes, Version::V1_1, flaw);
                 let told = Explained::of(Some(about), None);
@@ -229,8 +234,8 @@ impl<O: Room<OpenSlot> + Drop> Pool<O> {
         }
     }
 
-    /// Explains a check that refuses FFA_MEM_RECLAIM of an endpoint, in the RAM from `base` on: the first page of the transaction that
-    /// its owner may not write, or what the transaction has that the call needs otherwise.
+    /// Explains a check that refuses FFA_MEM_RECLAIM of an endpoint, in the RAM that begins at `base`. Returns the
+    /// first page of the transaction that its owner may not write to, or what the transaction has instead.
     pub fn explain_reclaim<P: Room<KeptPage> + Drop>(
         &self,
         pages: &PageTable<P>,
@@ -251,7 +256,7 @@ impl<O: Room<OpenSlot> + Drop> Pool<O> {
         }
     }
 
-    // What to change where a check compares a retrieve with the transaction that it names.
+    // Returns what to change, if a check compares a retrieve with the transaction that it names.
     fn mend_asked<P: Room<KeptPage> + Drop>(
         &self,
         pages: &PageTable<P>,
@@ -272,7 +277,8 @@ impl<O: Room<OpenSlot> + Drop> Pool<O> {
             .mend_retrieve(pages, base, caller, asked, refusal)
     }
 
-    // What to change where FFA_MEM_RELINQUISH or FFA_MEM_RECLAIM needs another transaction than the handle's.
+    // Returns what to change, if FFA_MEM_RELINQUISH or FFA_MEM_RECLAIM needs another transaction than the one with this
+    // handle.
     fn mend_return(&self, handle: u64, caller: EndpointId, refusal: Refusal) -> Option<Mend>
         ensures { result ≡ mend_return caller.0 refusal (finite.get (map_in self.now.slots) handle) }
     {
@@ -286,7 +292,7 @@ impl<O: Room<OpenSlot> + Drop> Pool<O> {
         }
     }
 
-    // The transaction with this handle, if it is open.
+    // Returns the transaction with this handle, if it is open.
     fn named(&self, handle: u64) -> Option<&OpenTransaction>
         ensures { option_map (λ t. view_of t.now) result ≡ finite.get (map_in self.now.slots) handle }
     {
@@ -298,7 +304,7 @@ impl<O: Room<OpenSlot> + Drop> Pool<O> {
 }
 
 impl OpenTransaction {
-    // What a receiver names in a retrieve that the transaction has otherwise.
+    // Returns what the transaction has instead of what a retrieve names.
     fn mend_retrieve<P: Room<KeptPage> + Drop>(
         &self,
         pages: &PageTable<P>,
@@ -323,7 +329,7 @@ impl OpenTransaction {
         }
     }
 
-    // The right that a receiver asks for, and the most that it may hold.
+    // Returns the right that a receiver requests, and the greatest right that it may hold.
     fn mend_right<P: Room<KeptPage> + Drop>(
         &self,
         pages: &PageTable<P>,
@@ -346,7 +352,7 @@ impl OpenTransaction {
         })
     }
 
-    // The first receiver that holds it.
+    // Returns the first receiver that holds the transaction, or `None`.
     fn first_holder(&self) -> Option<Receiver>
         ensures { let its = view_of self.now in
             result ≡ find (λ (r : Named). is_some (held_by its r.endpoint.0)) its.receivers }
@@ -359,7 +365,7 @@ impl OpenTransaction {
     }
 }
 
-// The kind that is named, where one is, and the transaction's.
+// Returns the kind that a retrieve names and the transaction's kind, or `None` if the retrieve names no kind.
 fn mend_kind(found: Option<Kind>, wanted: Kind) -> Option<Mend>
     ensures { result ≡ option_map (λ k. Mend.Kind k wanted) found }
 {
@@ -369,7 +375,7 @@ fn mend_kind(found: Option<Kind>, wanted: Kind) -> Option<Mend>
     }
 }
 
-// Why a handle is none of a transaction that is offered to the caller.
+// Returns the reason why no transaction with a handle has the caller as a receiver.
 fn mend_offered(its: Option<&OpenTransaction>) -> Mend
     ensures { Some result ≡ mend_offered (option_map (λ t. view_of t.now) its.entry) }
 {
@@ -379,7 +385,8 @@ fn mend_offered(its: Option<&OpenTransaction>) -> Mend
     }
 }
 
-// Why a handle is none of a transaction of the caller's.
+// Returns the sender of the transaction with a handle, which is not the caller, or the cause that no transaction has
+// the handle.
 fn mend_sent(its: Option<&OpenTransaction>) -> Mend
     ensures { Some result ≡ mend_sent (option_map (λ t. view_of t.now) its.entry) }
 {
@@ -389,7 +396,7 @@ fn mend_sent(its: Option<&OpenTransaction>) -> Mend
     }
 }
 
-// Why the pages of a transaction that the caller holds can't become zeros.
+// Returns the reason why the caller may not request zeros in the pages of a transaction.
 fn mend_zeros(its: Option<&OpenTransaction>, caller: EndpointId) -> Option<Mend>
     ensures { result ≡ mend_zeros caller.0 (option_map (λ t. view_of t.now) its.entry) }
 {
@@ -403,7 +410,7 @@ fn mend_zeros(its: Option<&OpenTransaction>, caller: EndpointId) -> Option<Mend>
     }
 }
 
-// The first receiver that holds a transaction.
+// Returns the first receiver that holds a transaction.
 fn mend_held(its: Option<&OpenTransaction>) -> Option<Mend>
     ensures { result ≡ mend_held (option_map (λ t. view_of t.now) its.entry) }
 {
@@ -413,7 +420,7 @@ fn mend_held(its: Option<&OpenTransaction>) -> Option<Mend>
     }
 }
 
-// A condition that bytes break, with its field.
+// Returns a condition that bytes break, with the field of the condition.
 fn about_field<M: PhysMem>(bytes: &PageRun<M>, version: Version, flaw: Flaw) -> About
     ensures { result ≡ about_field (in_version version bytes.now) flaw }
 {
@@ -425,7 +432,7 @@ fn about_field<M: PhysMem>(bytes: &PageRun<M>, version: Version, flaw: Flaw) -> 
     }
 }
 
-// The endpoint of a send that a check is about.
+// Returns the endpoint of a send that a check is about.
 fn named_by_send(offer: &SendDesc, endpoints: usize, refusal: Refusal) -> Option<About>
     ensures { result ≡ named_by_send endpoints (send_record offer.now) refusal }
 {
@@ -436,7 +443,7 @@ fn named_by_send(offer: &SendDesc, endpoints: usize, refusal: Refusal) -> Option
     }
 }
 
-// The first receiver that is none of so many endpoints.
+// Returns the first receiver that is not an endpoint of a machine with this number of endpoints.
 fn unknown_receiver(receivers: &[Receiver], endpoints: usize) -> Option<About>
     ensures { result ≡ unknown_receiver endpoints receivers.now }
 {
@@ -449,14 +456,14 @@ fn unknown_receiver(receivers: &[Receiver], endpoints: usize) -> Option<About>
     }
 }
 
-// Whether a receiver is one of so many endpoints.
+// Whether a receiver is an endpoint of a machine with this number of endpoints.
 fn is_known(receiver: &Receiver, endpoints: usize) -> bool
     ensures { result ≡ is_known_receiver endpoints receiver.now }
 {
     receiver.endpoint.is_among(endpoints)
 }
 
-// What a retrieve names that a check is about.
+// Returns the endpoint or the handle of a retrieve that a check is about.
 fn named_by_retrieve(asked: &RetrieveDesc, refusal: Refusal) -> Option<About>
     ensures { result ≡ named_by_retrieve asked.now refusal }
 {
@@ -473,7 +480,7 @@ fn named_by_retrieve(asked: &RetrieveDesc, refusal: Refusal) -> Option<About>
     }
 }
 
-// What a relinquish names that a check is about.
+// Returns the endpoint or the handle of a relinquish that a check is about.
 fn named_by_relinquish(asked: &RelinquishDesc, refusal: Refusal) -> Option<About>
     ensures { result ≡ named_by_relinquish asked.now refusal }
 {

@@ -1,5 +1,6 @@
 // SPDX-License-Identifier: MIT OR Apache-2.0
-//! The first page that fails a check of a send or a reclaim, and where an offer leaves RAM or a world.
+//! The first page that fails a check of a send or a reclaim, and the ranges of an offer that are outside RAM or of the
+//! wrong world.
 ghost use Rattle.std.specs.Prelude.{◌≡◌, ◌<◌, ◌&&◌, [], length, not};
 ghost use Rattle.std.specs.List.{list_all};
 ghost use Rattle.ffa_model.specs.declared.limits.TheConstants.{MOST_PAGES};
@@ -30,7 +31,7 @@ use ffa_pages::{KeptPage, PageTable};
 use ffa_rxtx::Buffers;
 use ffa_stage2::Layout;
 
-/// The first page that is offered and that fails a check.
+/// Returns the first page of an offer that fails a check, or `None`.
 pub(crate) fn failing_offer<P: Room<KeptPage> + Drop>(
     offer: &SendDesc,
     pages: &PageTable<P>,
@@ -51,7 +52,7 @@ pub(crate) fn failing_offer<P: Room<KeptPage> + Drop>(
     None
 }
 
-// Whether a page is offered and fails a check.
+// Whether a page is in an offer and fails a check.
 fn fails<P: Room<KeptPage> + Drop>(
     offer: &SendDesc,
     pages: &PageTable<P>,
@@ -95,7 +96,7 @@ fn passes<P: Room<KeptPage> + Drop>(
     }
 }
 
-/// Where the ranges of an offer leave RAM, and of which worlds their pages are.
+/// Returns the first address of an offer outside RAM, or the reason why its pages are of the wrong world.
 pub(crate) fn mend_offer<P: Room<KeptPage> + Drop>(
     offer: &SendDesc,
     pages: &PageTable<P>,
@@ -116,7 +117,7 @@ pub(crate) fn mend_offer<P: Room<KeptPage> + Drop>(
     }
 }
 
-// Why the pages of these ranges are not of one world.
+// Returns the reason why the pages of these ranges are of the wrong world.
 fn mixed<P: Room<KeptPage> + Drop>(ranges: &[Range], pages: &PageTable<P>, layout: &Layout) -> Cause
     ensures { let owners = ownership_in pages.now layout.now.base.0 in
         result ≡ mixed owners (normal_in layout.now) ranges.now }
@@ -145,7 +146,7 @@ fn are_secure<P: Room<KeptPage> + Drop>(
     true
 }
 
-// Whether a page stands in one of these ranges and is non-secure.
+// Whether a page is in one of these ranges and is non-secure.
 fn is_normal_in(ranges: &[Range], layout: &Layout, page: PageNo) -> bool
     ensures { let is_normal = is_normal layout.now.base.0 (normal_in layout.now) page.0 in
         result ≡ (in_ranges layout.now.base.0 ranges.now page.0 && is_normal) }
@@ -153,7 +154,7 @@ fn is_normal_in(ranges: &[Range], layout: &Layout, page: PageNo) -> bool
     is_in_any(ranges, layout.base, page) && layout.is_normal(page)
 }
 
-// The first page outside RAM of the first range that doesn't lie in it.
+// Returns the first address outside RAM of the first range that is not in RAM.
 fn first_outside<P: Room<KeptPage> + Drop>(
     ranges: &[Range],
     pages: &PageTable<P>,
@@ -168,7 +169,7 @@ fn first_outside<P: Room<KeptPage> + Drop>(
     }
 }
 
-// The first page outside RAM of a range that doesn't lie in it.
+// Returns the first address outside RAM of a range that is not in RAM.
 fn outside_of<P: Room<KeptPage> + Drop>(range: &Range, pages: &PageTable<P>, base: Address) -> u64
     ensures { result ≡ outside_of (ownership_in pages.now base.0) range.now }
 {
@@ -181,8 +182,8 @@ fn outside_of<P: Room<KeptPage> + Drop>(range: &Range, pages: &PageTable<P>, bas
     }
 }
 
-/// The page that a check of FFA_MEM_RECLAIM of the transaction with this handle is about, where it fails: the
-/// first of its pages that its owner may not write, in the RAM from `base` on.
+/// Returns the page that a check of FFA_MEM_RECLAIM is about, or `None`. It is the first page of the transaction with
+/// this handle that its owner may not write to. The RAM begins at `base`.
 pub(crate) fn failing_reclaim<P: Room<KeptPage> + Drop, O: Room<OpenSlot> + Drop>(
     pool: &Pool<O>,
     pages: &PageTable<P>,
@@ -217,7 +218,7 @@ fn list_ranges<O: Room<OpenSlot> + Drop>(
     }
 }
 
-// The first page of these ranges that its owner may not write.
+// Returns the first page of these ranges that its owner may not write to, or `None`.
 fn first_unwritable<P: Room<KeptPage> + Drop>(
     ranges: &[Range],
     pages: &PageTable<P>,
@@ -234,7 +235,7 @@ fn first_unwritable<P: Room<KeptPage> + Drop>(
     None
 }
 
-// Whether a page stands in one of these ranges and its owner may not write it.
+// Whether a page is in one of these ranges and its owner may not write to it.
 fn is_unwritable<P: Room<KeptPage> + Drop>(
     ranges: &[Range],
     pages: &PageTable<P>,
@@ -247,14 +248,14 @@ fn is_unwritable<P: Room<KeptPage> + Drop>(
     is_in_any(ranges, base, page) && !may_store(pages.own_right_of(page))
 }
 
-// Whether one of these ranges has a page.
+// Whether a page is in one of these ranges.
 fn is_in_any(ranges: &[Range], base: Address, page: PageNo) -> bool
     ensures { result ≡ in_ranges base.0 ranges.now page.0 }
 {
     ranges.iter().any(|range| has_page(range, base, page))
 }
 
-// Whether a range has a page.
+// Whether a page is in a range.
 fn has_page(range: &Range, base: Address, page: PageNo) -> bool
     ensures { result ≡ in_range base.0 range.now page.0 }
 {
@@ -262,7 +263,8 @@ fn has_page(range: &Range, base: Address, page: PageNo) -> bool
     range.address <= address && address - range.address < 4096 * u64::from(range.pages)
 }
 
-// Whether an endpoint may send a page: its own, in no open transaction, and without a buffer.
+// Whether an endpoint may send a page. The page must belong to the endpoint, and must be in no open transaction and in
+// no buffer.
 fn is_sendable<P: Room<KeptPage> + Drop>(
     pages: &PageTable<P>,
     buffers: &Buffers,
@@ -277,7 +279,7 @@ fn is_sendable<P: Room<KeptPage> + Drop>(
     is_own(pages, sender, page) && !is_buffer(buffers, page)
 }
 
-// Whether somebody has a buffer in a page.
+// Whether a page is in a buffer of an endpoint.
 fn is_buffer(buffers: &Buffers, page: PageNo) -> bool
     requires { page.0 < MOST_PAGES }
     ensures { result ≡ is_buffer buffers.now page.0 }
@@ -294,7 +296,7 @@ fn are_grantable(receivers: &[Receiver], right: Option<Rights>) -> bool
         .all(|receiver| is_grantable(receiver.grant, right))
 }
 
-// Whether a grant is no more than this own right.
+// Whether a grant is at most this own right.
 fn is_grantable(grant: Option<Data>, right: Option<Rights>) -> bool
     ensures { result ≡ is_grantable grant right }
 {
@@ -306,7 +308,7 @@ fn is_grantable(grant: Option<Data>, right: Option<Rights>) -> bool
     }
 }
 
-// Whether this own right lets its owner write.
+// Whether this own right allows its owner to write.
 fn may_store(right: Option<Rights>) -> bool
     ensures { result ≡ may_store right }
 {

@@ -1,5 +1,5 @@
 // SPDX-License-Identifier: MIT OR Apache-2.0
-//! Who may still retrieve a page.
+//! The right that an endpoint may still retrieve.
 ghost use Rattle.std.specs.Prelude.{◌≡◌, ◌<◌, Some, length};
 ghost use Rattle.ffa_mend.specs.Offered.{offered_by};
 ghost use Rattle.ffa_pages.specs.Entry.{slot_at};
@@ -15,8 +15,9 @@ use ffa_model::{Address, EndpointId, PageNo, Rights, Room};
 use ffa_pages::{KeptPage, PageTable};
 
 impl<O: Room<OpenSlot> + Drop> Pool<O> {
-    /// The most that an endpoint may still get of the open transaction that names a page: nothing where none does, and for an
-    /// endpoint that is no receiver or holds it.
+    /// Returns the greatest right that an endpoint may still get of the open transaction that names a page. Returns
+    /// `None` if no open transaction names the page, or if the endpoint is not a receiver or holds the transaction
+    /// already.
     pub fn offered_at<P: Room<KeptPage> + Drop>(
         &self,
         pages: &PageTable<P>,
@@ -38,7 +39,7 @@ impl<O: Room<OpenSlot> + Drop> Pool<O> {
 impl OpenTransaction {
     ghost use Rattle.ffa_memshare.specs.Stored.{view_of};
 
-    // The most that an endpoint may still get of it.
+    // Returns the greatest right that an endpoint may still get of the transaction, or `None`.
     fn offered_to<P: Room<KeptPage> + Drop>(
         &self,
         pages: &PageTable<P>,
