@@ -1,6 +1,6 @@
 // SPDX-License-Identifier: MIT OR Apache-2.0
-//! One block of RAM in an endpoint's tables: a block of 2 MiB where its 512 pages have one right other than nothing, and
-//! else a table of level 3.
+//! One block of RAM in an endpoint's tables. If its 512 pages have one right other than no right, the block is a block
+//! descriptor of 2 MiB. Otherwise it is a table of level 3.
 ghost use Rattle.std.specs.Prelude.{◌≡◌, ℕ, ◌+◌, ◌-◌, ◌*◌, ◌%◌, ◌^◌, ◌<◌, ◌≤◌, ◌↔◌, ◌⊎◌, IsTrue, is_some, false, true, length, Option, Some};
 ghost use Rattle.arrayvec.specs.ArrayVec.{array_vec_len};
 ghost use Rattle.ffa_model.specs.Ram.{page_of};
@@ -21,23 +21,23 @@ use ffa_model::{Address, PageNo, Rights};
 use ffa_physmem::descriptor::{BLOCK, PAGE, TABLE};
 use ffa_physmem::{PAGE_SIZE, PhysMem};
 
-/// Where one endpoint's tables speak of one block of RAM.
+/// The place of one block of RAM in one endpoint's tables.
 #[derive(Clone, Copy)]
 pub(crate) struct BlockPlace {
-    // The level 2 page, and the block's place in it.
+    // The level 2 page, and the place of the block's word in it.
     middle: PageNo,
     entry: usize,
-    // The level 3 page, and the descriptor that names it.
+    // The level 3 page of the block, and the descriptor that names it.
     table: PageNo,
     link: u64,
-    // The address of the block's first page, that page, and the endpoint's place in the manifest.
+    // The address of the block's first page, the number of this page, and the endpoint's place in the manifest.
     address: u64,
     first: PageNo,
     endpoint: usize,
 }
 
 impl BlockPlace {
-    // The place of a block in an endpoint's tables.
+    // Returns the place of a block in an endpoint's tables.
     pub(crate) fn of<M: PhysMem>(
         memory: &M,
         layout: &Layout,
@@ -62,7 +62,7 @@ impl BlockPlace {
         }
     }
 
-    // The level 2 word.
+    // Returns the level 2 word of the block.
     fn word<M: PhysMem>(&self, memory: &M) -> u64
         requires place { IsPlace (M.ram memory.now) self.now }
         ensures { result ≡ word_at (M.ram memory.now) self.now }
@@ -71,7 +71,7 @@ impl BlockPlace {
     }
 }
 
-// Whether a page of a table has this right.
+// Whether a page of the block has this right in the level 3 table.
 fn has_right<M: PhysMem>(memory: &M, place: &BlockPlace, page: u32, right: Option<Rights>) -> bool
     requires place { IsPlace (M.ram memory.now) place.now }
     requires page { page < 512 }
@@ -83,9 +83,9 @@ fn has_right<M: PhysMem>(memory: &M, place: &BlockPlace, page: u32, right: Optio
     memory.read_word(place.table, page as usize) == word
 }
 
-// Whether the 512 pages of a table have the right that one of them has, and that is a right. All are read only where the
-// next page and the first have it: while the pages of a block change one after another, up or down, one of the two
-// hasn't.
+// Whether all 512 pages of the table have one right, which is not no right. `right` is the right of the page `within`.
+// All words are read only if the next page and the first page have this right too. While the pages of a block change
+// one after another, up or down, one of these two has another right.
 fn is_one<M: PhysMem>(memory: &M, place: &BlockPlace, within: u32, right: Option<Rights>) -> bool
     requires place { IsPlace (M.ram memory.now) place.now }
     requires within { within < 512 }
@@ -107,8 +107,8 @@ fn is_one<M: PhysMem>(memory: &M, place: &BlockPlace, within: u32, right: Option
     is_uniform(memory.page(place.table))
 }
 
-// Puts a word at level 2 in place of a valid one that has another size, by way of nothing, which every translation unit
-// sees (DDI 0487, "Using break-before-make when updating translation table entries").
+// Replaces a valid word at level 2 by a word of another size. Between the two, the word is 0, and the settle lets every
+// translation unit see this (DDI 0487, "Using break-before-make when updating translation table entries").
 fn replace<M: PhysMem>(memory: &mut M, place: &BlockPlace, word: u64)
     requires place { IsPlace (M.ram memory.old) place.now }
     requires word { IsLinkOrBlock place.now.link place.now.address word }
@@ -123,7 +123,7 @@ fn replace<M: PhysMem>(memory: &mut M, place: &BlockPlace, word: u64)
     memory.write_word(place.middle, place.entry, word);
 }
 
-// Puts a block where a table stands, if its pages have one right other than nothing.
+// Replaces a table by a block, if the pages of the table have one right other than no right.
 fn join<M: PhysMem>(memory: &mut M, place: &BlockPlace, within: u32, right: Option<Rights>)
     requires place { IsPlace (M.ram memory.old) place.now }
     requires within { within < 512 }
@@ -149,7 +149,8 @@ fn join<M: PhysMem>(memory: &mut M, place: &BlockPlace, within: u32, right: Opti
     }
 }
 
-// Writes words of a table one by one, from one place up to another: each is `first` plus `step` times its place.
+// Writes words of a table one by one, from place `from` up to place `to`. Each word is `first` plus `step` times its
+// place.
 fn write_words<M: PhysMem>(memory: &mut M, table: PageNo, from: u32, to: u32, first: u64, step: u64)
     requires table { table.0 < length (M.ram memory.old).pages }
     requires whole { length (page_of (M.ram memory.old) table.0) ≡ 4096 }
@@ -169,7 +170,7 @@ fn write_words<M: PhysMem>(memory: &mut M, table: PageNo, from: u32, to: u32, fi
     }
 }
 
-// Gives pages of a table the right of the block whose word this is.
+// Sets words of a table so that their pages have the right of the block with this word.
 fn keep<M: PhysMem>(memory: &mut M, place: &BlockPlace, from: u32, to: u32, word: u64)
     requires place { IsPlace (M.ram memory.old) place.now }
     requires from { from ≤ to }
@@ -188,7 +189,7 @@ fn keep<M: PhysMem>(memory: &mut M, place: &BlockPlace, from: u32, to: u32, word
     write_words(memory, place.table, from, to, word + PAGE, PAGE_SIZE as u64);
 }
 
-// Gives a right to pages of a table.
+// Sets words of a table so that their pages have this right.
 fn fill<M: PhysMem>(memory: &mut M, place: &BlockPlace, from: u32, to: u32, right: Option<Rights>)
     requires place { IsPlace (M.ram memory.old) place.now }
     requires from { from ≤ to }
@@ -214,7 +215,7 @@ fn fill<M: PhysMem>(memory: &mut M, place: &BlockPlace, from: u32, to: u32, righ
     );
 }
 
-// Gives a right to all pages of a block by its one word.
+// Sets the right of all pages of a block by its one word.
 fn put_block<M: PhysMem>(memory: &mut M, place: &BlockPlace, right: Option<Rights>)
     requires place { IsPlace (M.ram memory.old) place.now }
     requires stands { (rights : ℕ → Option Rights) × Maps (M.ram memory.old) place.now rights }
@@ -226,7 +227,7 @@ fn put_block<M: PhysMem>(memory: &mut M, place: &BlockPlace, right: Option<Right
     ensures orders { (rights : ℕ → Option Rights)
         → Maps (M.ram memory.old) place.now rights
         → Only (M.past memory.old) (M.past memory.new) (λ h s. IsOrderly place.now (IsSameRun rights 0 512 right) h s) }
-    // A table becomes a block, or the block's word is stored.
+    // A table becomes a block, or the word of the block is stored.
     ensures few { (rights : ℕ → Option Rights)
         → Maps (M.ram memory.old) place.now rights
         → (carry : ℕ)
@@ -245,7 +246,8 @@ fn put_block<M: PhysMem>(memory: &mut M, place: &BlockPlace, right: Option<Right
     }
 }
 
-// Gives a right to pages of a block that stands, of which this is the word. The table is named when it is whole.
+// Sets the right of some pages of a block, which is a block descriptor with this word. The table is complete before the
+// level 2 word names it.
 fn split<M: PhysMem>(
     memory: &mut M,
     place: &BlockPlace,
@@ -288,7 +290,7 @@ fn split<M: PhysMem>(
     replace(memory, place, place.link);
 }
 
-// Gives a right to pages of a table that stands.
+// Sets the right of some pages of a block that is a table.
 fn change_table<M: PhysMem>(
     memory: &mut M,
     place: &BlockPlace,
@@ -320,7 +322,7 @@ fn change_table<M: PhysMem>(
     join(memory, place, to - 1, right);
 }
 
-// Whether the pages of a block from one up to another are all of them.
+// Whether the pages from `from` up to `to` are all pages of a block.
 fn is_whole(from: u32, to: u32) -> bool
     requires from { from < to }
     requires to { to ≤ 512 }
@@ -329,7 +331,7 @@ fn is_whole(from: u32, to: u32) -> bool
     to - from == 512
 }
 
-// Gives a right to the pages of a block from one up to another.
+// Sets the right of the pages of a block from `from` up to `to`.
 pub(crate) fn change<M: PhysMem>(
     memory: &mut M,
     place: &BlockPlace,

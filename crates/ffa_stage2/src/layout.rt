@@ -1,5 +1,5 @@
 // SPDX-License-Identifier: MIT OR Apache-2.0
-//! Where the RAM stands, and which pages of it each endpoint may use from the start.
+//! The place of the RAM, and the pages that each endpoint may use from the start.
 ghost use Rattle.std.specs.Prelude.{◌≡◌, is_some, ℕ, ◌+◌, ◌*◌, ◌%◌, ◌^◌, ◌<◌, ◌≤◌};
 ghost use Rattle.arrayvec.specs.ArrayVec.{array_vec_len};
 ghost use Rattle.ffa_model.specs.declared.limits.TheConstants.{MOST_BLOCKS};
@@ -20,7 +20,7 @@ pub struct Regions {
 }
 
 impl Regions {
-    // The endpoint's regions.
+    // Returns the regions of an endpoint.
     fn of(endpoint: &Endpoint) -> Regions
         ensures { result.list.items ≡ endpoint.now.regions.items }
     {
@@ -31,7 +31,7 @@ impl Regions {
         Regions { list }
     }
 
-    // The same regions once more.
+    // Returns a copy of the regions.
     fn copy(&self) -> Regions
         ensures { result ≡ self.now }
     {
@@ -43,17 +43,17 @@ impl Regions {
     }
 }
 
-/// What the tables are built from: the RAM's place and size, and each endpoint's regions with its rights to them. The
-/// RAM has room for the tables.
+/// The data from which the library builds the tables: the place and the size of the RAM, and the regions of each
+/// endpoint with its rights. The RAM has room for the tables.
 #[derive(Drop)]
 pub struct Layout {
-    /// The address of RAM's first byte.
+    /// The address of the first byte of the RAM.
     pub base: Address,
-    /// RAM's size, in blocks of 2 MiB.
+    /// The size of the RAM, in blocks of 2 MiB.
     pub blocks: u32,
     /// The first page of the tables.
     pub tables: PageNo,
-    /// The regions by the endpoint's place in the manifest.
+    /// The regions of each endpoint, at the endpoint's place in the manifest.
     pub regions: ArrayVec<Regions, MOST_ENDPOINTS>,
     /// The version of FF-A that the machine serves.
     pub ffa: Ffa,
@@ -69,7 +69,7 @@ impl Layout {
     ghost use Rattle.ffa_model.specs.Regions.{is_normal, normal_of, regions_at, regions_of_each};
     ghost use Rattle.ffa_stage2.specs.Tables.{table_page, table_link};
 
-    /// The layout of a machine: its RAM, and its endpoints' regions in the same order.
+    /// Returns the layout of a machine: its RAM, and the regions of its endpoints in the order of the manifest.
     pub fn of(manifest: &Manifest) -> Layout
         ensures base { result.base.0 ≡ manifest.now.ram_base.0 }
         ensures blocks { result.blocks ≡ manifest.now.ram_blocks }
@@ -90,7 +90,7 @@ impl Layout {
         }
     }
 
-    /// The same layout once more. It takes no memory.
+    /// Returns a copy of the layout. It allocates nothing.
     pub fn copy(&self) -> Layout
         ensures { result ≡ self.now }
     {
@@ -107,14 +107,15 @@ impl Layout {
         }
     }
 
-    /// Whether worlds are told apart.
+    /// Whether the machine distinguishes secure pages from non-secure pages. A machine of FF-A 1.2 does so.
     pub fn tells_worlds(&self) -> bool
         ensures { result ≡ is_some (normal_in self.now) }
     {
         self.ffa == Ffa::V1_2
     }
 
-    /// Whether a page is non-secure, where worlds are told apart.
+    /// Whether a page is non-secure. If the machine does not distinguish secure pages from non-secure pages, returns
+    /// false.
     pub fn is_normal(&self, page: PageNo) -> bool
         ensures { result ≡ is_normal self.now.base.0 (normal_in self.now) page.0 }
     {
@@ -124,7 +125,8 @@ impl Layout {
         right_in(self.regions[0].list.as_slice(), self.base, page).is_some()
     }
 
-    /// Up to which page, at most an end, all pages from one on are non-secure, or none of them is.
+    /// Returns the end of a run of pages that begins at `first`. The pages of the run are all non-secure, or all of
+    /// them are not. The run ends at `end` at the latest.
     pub fn normal_until(&self, first: PageNo, end: u32) -> u32
         requires { first.0 < end }
         ensures some { first.0 < result }
@@ -138,7 +140,7 @@ impl Layout {
         regions_until(self.regions[0].list.as_slice(), self.base, first, end)
     }
 
-    // The right that an endpoint's regions give to a page, if one of them has it.
+    // Returns the right that an endpoint's regions grant to a page, or `None`.
     pub(crate) fn right(&self, index: usize, page: PageNo) -> Option<Rights>
         requires index { index < array_vec_len self.now.regions }
         requires page { page.0 < 512 * self.now.blocks }
@@ -147,7 +149,8 @@ impl Layout {
         right_in(self.regions[index].list.as_slice(), self.base, page)
     }
 
-    // Up to which page of the RAM an endpoint's regions give all from one on the same right, or none of them any.
+    // Returns the end of a run of pages that begins at `first`. The endpoint's regions grant one right to all pages of
+    // the run, or no right to all of them. The run ends at the end of the RAM at the latest.
     pub(crate) fn right_until(&self, index: usize, first: PageNo) -> u32
         requires index { index < array_vec_len self.now.regions }
         requires page { first.0 < 512 * self.now.blocks }
@@ -164,7 +167,7 @@ impl Layout {
         )
     }
 
-    // One of an endpoint's table pages: 0 is level 1, 1 is level 2, and 2 + k is level 3 of block k.
+    // Returns a page of an endpoint's tables. Number 0 is level 1, 1 is level 2, and 2 + k is level 3 of block k.
     pub(crate) fn table_page(&self, index: usize, table: u32) -> PageNo
         requires index { index < array_vec_len self.now.regions }
         requires table { table < table_pages self.now.blocks }
@@ -174,7 +177,7 @@ impl Layout {
         PageNo(self.tables.0 + index as u32 * (2 + self.blocks) + table)
     }
 
-    // The descriptor that names it.
+    // Returns the descriptor that names a page of an endpoint's tables.
     pub(crate) fn table_link(&self, index: usize, table: u32) -> u64
         requires index { index < array_vec_len self.now.regions }
         requires table { table < table_pages self.now.blocks }

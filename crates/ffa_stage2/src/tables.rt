@@ -1,6 +1,6 @@
 // SPDX-License-Identifier: MIT OR Apache-2.0
-//! The tables in RAM, from a page of the layout's on: for each endpoint in order a page of level 1, one of level 2, and one
-//! of level 3 for each block of 2 MiB.
+//! The stage 2 tables in RAM, from a page of the layout on. For each endpoint in order there is a page of level 1, a
+//! page of level 2, and a page of level 3 for each block of 2 MiB.
 ghost use Rattle.std.specs.Prelude.{◌≡◌, ℕ, ◌+◌, ◌-◌, ◌*◌, ◌/◌, ◌<◌, ◌≤◌, Bool, length, Option};
 ghost use Rattle.arrayvec.specs.ArrayVec.{array_vec_len};
 ghost use Rattle.ffa_model.specs.Descriptor.{page_word};
@@ -22,11 +22,11 @@ use ffa_model::{Data, PageNo, Rights};
 use ffa_physmem::PhysMem;
 use ffa_physmem::descriptor::{ADDRESS, EXECUTE_NEVER, READABLE_PAGE, WRITABLE};
 
-// How many pages addresses of 32 bits have.
+// The number of pages that addresses of 32 bits have.
 const ALL_PAGES: u32 = 1 << 20;
 
-/// The level 3 descriptor that maps the page of an address to itself (DDI 0487, D8.3). Bits 47:12 of the address alone
-/// count. No right is 0.
+/// Returns the level 3 descriptor that maps the page of an address to itself (DDI 0487, D8.3). Only bits 47:12 of the
+/// address count. For `None`, returns 0.
 pub fn leaf(address: u64, right: Option<Rights>) -> u64
     ensures { result ≡ page_word address right }
 {
@@ -43,8 +43,8 @@ pub fn leaf(address: u64, right: Option<Rights>) -> u64
     }
 }
 
-/// Gives one endpoint, named by its place in the manifest from 0, another right to one page. No other access changes,
-/// and no byte outside that endpoint's table pages.
+/// Sets the right of one endpoint to one page. `index` is the endpoint's place in the manifest, from 0. No other access
+/// changes. Only the table pages of this endpoint change.
 pub fn set_page<M: PhysMem>(
     memory: &mut M,
     layout: &Layout,
@@ -81,8 +81,8 @@ pub fn set_page<M: PhysMem>(
     set_pages(memory, layout, index, page, 1, right);
 }
 
-/// Gives one endpoint, named by its place in the manifest from 0, another right to pages that follow one another. No
-/// other access changes, and no byte outside that endpoint's table pages.
+/// Sets the right of one endpoint to consecutive pages. `index` is the endpoint's place in the manifest, from 0. No
+/// other access changes. Only the table pages of this endpoint change.
 pub fn set_pages<M: PhysMem>(
     memory: &mut M,
     layout: &Layout,
@@ -101,8 +101,9 @@ pub fn set_pages<M: PhysMem>(
         (array_vec_len layout.now.regions) layout.now.tables.0 layout.now.blocks index first.0 (first.0 + count) right }
     ensures others { KeepsOthers (M.ram memory.old) (M.ram memory.new) layout.now.tables.0 layout.now.blocks index }
 
-    // At each moment an endpoint has to a page the right that it had or the one that it is to have: so each walk is the one
-    // from before or the one behind. No page but the endpoint's table pages differs at any moment.
+    // After each step, take any page. Each endpoint has its right from before this function to the page, or no right.
+    // Or each endpoint has its right from after this function, or no right. So each walk gives its result from before
+    // or from after, or a translation fault. At each step, only table pages of the endpoint differ.
     ensures steps { (access : ℕ → ℕ → Option Rights)
         → IsBuiltFor layout.now (M.ram memory.old) access
         → let after = with_pages access index first.0 (first.0 + count) right in
@@ -110,14 +111,14 @@ pub fn set_pages<M: PhysMem>(
     ensures each_walk { let endpoints = array_vec_len layout.now.regions in
         Only (M.past memory.old) (M.past memory.new)
         (λ _ s. WalksBetween (M.ram memory.old) (M.ram memory.new) endpoints layout.now.tables.0 layout.now.blocks s.after) }
-    // Where the tables were at rest, so it is of walks in mixtures, whose words are of different moments, are kept until the
-    // page is settled, or are seen out of order.
+    // If the tables were at rest, this is also true of walks in mixtures. The words of a mixture are of different
+    // moments. Translation units keep them until the page is settled, or see them out of order.
     ensures mixtures { WalksMixed (M.ram memory.old) (M.ram memory.new)
         (array_vec_len layout.now.regions) layout.now.tables.0 layout.now.blocks (M.past memory.old) (M.past memory.new) }
 
-    // Break before make: each step is one at the place of a block in the endpoint's tables, and there a level 2 word that is
-    // valid gives way to one of another size only by way of an invalid one, behind which every translation unit has
-    // forgotten the block. Where no right to a block's pages changes, each word there stays.
+    // Break before make: each step is at the place of one block in the endpoint's tables. A valid level 2 word there
+    // gets another size only after it was invalid, and after every translation unit has forgotten the block. If no
+    // right to the pages of a block changes, each word there stays.
     ensures orders { (access : ℕ → ℕ → Option Rights)
         → IsBuiltFor layout.now (M.ram memory.old) access
         → let after = with_pages access index first.0 (first.0 + count) right in
@@ -129,7 +130,7 @@ pub fn set_pages<M: PhysMem>(
         → IsBuiltFor layout.now (M.ram memory.old) access
         → BlocksWhereOneFor layout.now (M.ram memory.new) (with_pages access index first.0 (first.0 + count) right) }
 
-    // The work is at most a word for each page, and what blocks take that are joined or split.
+    // The work is at most one word for each page, and the work for the blocks that are joined or split.
     ensures few { (access : ℕ → ℕ → Option Rights) (split : ℕ → Bool)
         → IsBuiltFor layout.now (M.ram memory.old) access
         → AreSplits (access index) right first.0 (first.0 + count) split
@@ -191,7 +192,8 @@ fn link<M: PhysMem>(memory: &mut M, layout: &Layout, index: usize)
     }
 }
 
-// Gives one endpoint, which has no right yet, the rights of its regions, a run of pages with one right at a time.
+// Sets the rights of one endpoint as its regions grant them. The endpoint has no right yet. Each call of `set_pages` is
+// for a run of pages with one right.
 fn grant<M: PhysMem>(memory: &mut M, layout: &Layout, index: usize)
     requires index { index < array_vec_len layout.now.regions }
     requires built { IsBuiltFor layout.now (M.ram memory.old) (rights_until (layout_right layout.now) index 0) }
@@ -211,7 +213,7 @@ fn grant<M: PhysMem>(memory: &mut M, layout: &Layout, index: usize)
     }
 }
 
-// Builds the tables of all endpoints, with no rights.
+// Builds the tables of all endpoints, without rights.
 fn link_all<M: PhysMem>(memory: &mut M, layout: &Layout)
     requires base { (M.ram memory.old).base ≡ layout.now.base.0 }
     requires size { length (M.ram memory.old).pages ≡ 512 * layout.now.blocks }
@@ -225,7 +227,7 @@ fn link_all<M: PhysMem>(memory: &mut M, layout: &Layout)
     }
 }
 
-// Has all pages settled in the tables of each endpoint.
+// Settles all pages in the tables of each endpoint.
 fn settle_all<M: PhysMem>(memory: &mut M, layout: &Layout)
     ensures ram { M.ram memory.new ≡ M.ram memory.old }
     ensures site { (M.past memory.new).site ≡ (M.past memory.old).site }
@@ -236,8 +238,8 @@ fn settle_all<M: PhysMem>(memory: &mut M, layout: &Layout)
     }
 }
 
-/// Has built tables settled, as they are once they were copied to a RAM: whatever walks read while they were written is settled,
-/// so behind it they are at rest.
+/// Settles all pages in the built tables of each endpoint, for tables that were copied to a RAM. Then translation units
+/// no longer hold results of earlier walks, and the tables are at rest.
 pub fn settle_tables<M: PhysMem>(memory: &mut M, layout: &Layout)
     requires { (access : ℕ → ℕ → Option Rights) × IsBuiltFor layout.now (M.ram memory.old) access }
     ensures ram { M.ram memory.new ≡ M.ram memory.old }
@@ -248,9 +250,9 @@ pub fn settle_tables<M: PhysMem>(memory: &mut M, layout: &Layout)
     settle_all(memory, layout);
 }
 
-/// Builds the tables of all endpoints, where each has the rights of its regions and no other, in a RAM that stands
-/// where the layout says. No other page changes. Whatever walks read while tables were built is settled, so
-/// behind it the tables are at rest.
+/// Builds the tables of all endpoints, in a RAM that is at the place of the layout. Each endpoint has the rights of its
+/// regions and no other rights. No other page changes. At the end the function settles all pages, so that the tables
+/// are at rest.
 pub fn build<M: PhysMem>(memory: &mut M, layout: &Layout)
     requires base { (M.ram memory.old).base ≡ layout.now.base.0 }
     requires size { length (M.ram memory.old).pages ≡ 512 * layout.now.blocks }
@@ -269,8 +271,9 @@ pub fn build<M: PhysMem>(memory: &mut M, layout: &Layout)
     settle_all(memory, layout);
 }
 
-/// What built tables give: the walk of each endpoint's table is its access at every address, they stay built where no
-/// table page changes, and each root is the address of a page of the RAM. It does nothing.
+/// Proves the laws of built tables. At every address, the walk of an endpoint's table gives the endpoint's access. The
+/// tables stay built if no table page changes. Each root is the address of a page of the RAM. The function does
+/// nothing.
 pub fn built_tables()
     ensures { TableLaws }
 {}
