@@ -9,7 +9,8 @@ use ffa_model::PageNo;
 use ffa_physmem::{FrameRam, PAGE_SIZE, PhysMem, put_front};
 use std::alloc::Global;
 
-/// Copies the first `bytes` bytes of `count` frames from `first` on. It reads each of these bytes once, and no other byte.
+/// Copies the first `bytes` bytes of `count` frames from `first` on. It reads each of these bytes once, and no other
+/// byte.
 pub(crate) fn copy_frames(
     copies: &mut [[u8; 4096]],
     frames: &FrameRam<Lent, Global>,
@@ -33,7 +34,7 @@ pub(crate) fn copy_frames(
     }
 }
 
-// The first `bytes` bytes of a page, or the whole page if it has fewer bytes.
+// Returns the first `bytes` bytes of a page, or the whole page if it has fewer bytes.
 fn front(page: &[u8; 4096], bytes: usize) -> &[u8]
     ensures { result.now ≡ take bytes page.now }
 {
@@ -48,7 +49,7 @@ fn copy_front(copy: &mut [u8; 4096], bytes: &[u8])
     put_front(copy, bytes);
 }
 
-/// Two pages have the same number of bytes.
+/// Proof step: two pages have the same number of bytes.
 pub(crate) fn are_alike(copy: &[u8; 4096], frame: &[u8; 4096])
     ensures { length copy.now ≡ length frame.now }
 {

@@ -1,5 +1,5 @@
 // SPDX-License-Identifier: MIT OR Apache-2.0
-//! Pages that are lent.
+//! Pages that the caller lends to the library.
 ghost use Rattle.std.specs.Prelude.{◌≡◌, ◌+◌, ◌<◌, ◌≤◌, ◌++◌, [], ◌∷◌, None, IfOk, IfErr, IfSome, max, is_ok, if◌then◌else◌, length, vec_len, option_map, option_to_list};
 ghost use Rattle.ffa_lent.specs.Listed.{empty, nothing_listed};
 ghost use Rattle.ffa_model.specs.declared.limits.TheConstants.{MOST_BUFFER_PAGES};
@@ -10,8 +10,9 @@ use ffa_physmem::PAGE_SIZE;
 use std::alloc::{AllocError, Global};
 use std::marker::Model;
 
-/// Pages that are lent, in the order in which they came, and beside them room for the copies that RAM over them keeps. Contracts
-/// see the bytes of each page, where it lies, for how many there is room, and whether the room for copies is there.
+/// Pages that the caller has lent, in the order in which they came. The value also has room for the copies of observed
+/// pages that RAM over them makes. Contracts see the bytes and the place in memory of each page. They also see the
+/// number of pages for which there is room, and whether there is room for copies.
 // A list has a box for each page. RAM cannot be one slice, because no `&mut` may outlive a call of C, and no `Vec` can
 // be made of memory that the library did not request.
 #[derive(Drop)]
@@ -37,14 +38,14 @@ impl Model for Frames {
       is_ready = is_some f.copies;
     } };
 
-    // The room is that of a whole TX.
+    // The room for copies is enough for a whole TX.
     ghost invariant = { λ f. IfSome f.copies (λ copies. vec_len copies ≡ MOST_BUFFER_PAGES) };
 }
 
 impl Frames {
     ghost use Rattle.ffa_lent.specs.Places.{place_of};
 
-    /// No pages, for which the list takes no memory, and no room for copies.
+    /// Returns a list without pages and without room for copies. It allocates nothing.
     pub fn none(alloc: Global) -> Frames
         ensures { result ≡ nothing_listed }
     {
@@ -52,7 +53,12 @@ impl Frames {
         Frames { list, copies: None }
     }
 
-    /// No pages, and room for so many, for which the list takes no more memory, nor RAM over them.
+    /// Returns a list without pages, but with room for this number of pages and for copies. The list then allocates
+    /// nothing for these pages, and RAM over them allocates nothing.
+    ///
+    /// # Errors
+    ///
+    /// The allocator has no memory for the list or the copies.
     pub fn with_room(alloc: Global, pages: usize) -> Result<Frames, AllocError>
         ensures { IfOk result (λ f. f ≡ empty pages) }
     {
@@ -61,14 +67,18 @@ impl Frames {
         Ok(Frames { list, copies })
     }
 
-    /// The number of pages.
+    /// Returns the number of pages.
     pub fn pages(&self) -> usize
         ensures { result ≡ length self.now.pages }
     {
         self.list.len()
     }
 
-    /// Makes room for so many pages more, and for no others. Where there is no memory for that, nothing changes.
+    /// Makes room for this number of pages more, and for no further pages.
+    ///
+    /// # Errors
+    ///
+    /// The allocator has no memory for this room. Nothing changes.
     pub fn reserve(&mut self, more: usize) -> Result<(), AllocError>
         ensures pages { self.new.pages ≡ self.old.pages }
         ensures places { self.new.places ≡ self.old.places }
@@ -80,7 +90,11 @@ impl Frames {
         self.list.reserve_exact(more)
     }
 
-    /// Adds a page behind the others. Where there is no room and no memory for that, the page comes back.
+    /// Adds a page after the other pages.
+    ///
+    /// # Errors
+    ///
+    /// There is no room for the page, and the allocator has no memory for more room. The error returns the page.
     pub fn lend(&mut self, page: Box<[u8; 4096], Lent>) -> Result<(), Box<[u8; 4096], Lent>>
         ensures pages { self.new.pages ≡ (if is_ok result then self.old.pages ++ page.value ∷ [] else self.old.pages) }
         ensures places { self.new.places ≡ (if is_ok result then self.old.places ++ place_of page ∷ [] else self.old.places) }
@@ -95,7 +109,7 @@ impl Frames {
         }
     }
 
-    /// Takes the last page out, if there is one.
+    /// Removes and returns the last page, or returns `None` if there are no pages.
     pub fn take_back(&mut self) -> Option<Box<[u8; 4096], Lent>>
         ensures last { self.old.pages ≡ self.new.pages ++ option_to_list (option_map (λ b. b.value) result) }
         ensures places { self.old.places ≡ self.new.places ++ option_to_list (option_map place_of result) }
@@ -107,7 +121,7 @@ impl Frames {
     }
 }
 
-// Room for the copies of as many pages as TX may have.
+// Returns room for the copies of all pages that TX may have.
 fn room_for_copies(alloc: Global) -> Result<Vec<[u8; 4096]>, AllocError>
     ensures { IfOk result (λ copies. vec_len copies ≡ MOST_BUFFER_PAGES) }
 {
@@ -118,7 +132,7 @@ fn room_for_copies(alloc: Global) -> Result<Vec<[u8; 4096]>, AllocError>
     Ok(copies)
 }
 
-// The room that is given, or else new room.
+// Returns the room of the argument, or new room if the argument is `None`.
 pub(crate) fn copies_in(
     alloc: Global,
     given: Option<Vec<[u8; 4096]>>,

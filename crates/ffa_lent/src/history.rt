@@ -8,7 +8,7 @@ use crate::settling::Asked;
 use ffa_model::PageNo;
 use std::marker::Model;
 
-/// The events so far, the last event first. A history takes no byte.
+/// The events of lent RAM until now, the last event first. A history has no bytes.
 #[derive(Drop)]
 pub struct History {
     pub ghost events: { List Event } by { coded_events },
@@ -18,7 +18,7 @@ impl Model for History {
     ghost also_owns = { λ _. ftrue };
 }
 
-/// One event. It takes no byte.
+/// One event. It has no bytes.
 #[derive(Drop)]
 pub struct Done {
     pub ghost event: { Event } by { coded_event },
@@ -29,7 +29,7 @@ impl Model for Done {
 }
 
 impl History {
-    // The history with no event.
+    // Returns the history without an event.
     #[inline(always)]
     pub(crate) fn new() -> History
         ensures { result.events ≡ [] }
@@ -37,7 +37,7 @@ impl History {
         History {}
     }
 
-    // The history with one more event.
+    // Returns the history with one more event.
     #[inline(always)]
     pub(crate) fn then(&self, _done: &Done) -> History
         ensures { result.events ≡ _done.now.event ∷ self.now.events }
@@ -46,7 +46,7 @@ impl History {
     }
 }
 
-/// What the library does to `count` pages from `first` on.
+/// An event: what the library does to `count` pages from `first` on.
 #[derive(Clone, Copy, Drop)]
 pub(crate) struct Doing<'a> {
     pub first: PageNo,
@@ -61,13 +61,13 @@ pub(crate) enum What<'a> {
     Stored,
     /// The library begins to write the bytes of a page.
     Lent,
-    /// The library has written the pages, as its loan of them ends.
+    /// The library has written the pages, and its loan of them ends.
     Written,
-    /// With `true`, the library reads the pages at once, and sees the bytes of this reading from now on. With `false`, the
-    /// library sees memory again.
+    /// With `true`, the library reads the pages at one moment, and sees the bytes of this reading from now on. With
+    /// `false`, the library sees memory again.
     Read(bool),
-    /// The library has asked firmware to settle the pages in the tables of the endpoint at this place.
+    /// The library has requested from firmware that it settles the pages in the tables of the endpoint at this place.
     Settled(usize, Asked<'a>),
-    /// The library has asked firmware that others see all earlier writes before any later write.
+    /// The library has requested from firmware that others see all earlier writes before any later write.
     Shown(Asked<'a>),
 }

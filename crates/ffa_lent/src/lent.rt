@@ -1,23 +1,24 @@
 // SPDX-License-Identifier: MIT OR Apache-2.0
-//! The allocator of memory that isn't ours.
+//! The allocator of memory that belongs to the caller.
 ghost use base.Fml.{feq};
 ghost use denote.RawPtr.{Ptr, coded_ptr};
 
 use std::alloc::{AllocError, Allocator};
 use std::marker::Model;
 
-/// What owns lent memory at one place: it gives none, and what goes back to it is left to whoever lent it.
+/// The allocator of lent memory at one place. It allocates nothing. Memory that returns to it remains with the caller
+/// that lent it.
 #[repr(C)]
 #[derive(Drop)]
 pub struct Lent {
-    /// Where the memory is. Only memory there can be in its box.
+    /// The place of the memory. Only memory at this place can be in a box of this allocator.
     pub ghost at: { Ptr } by { coded_ptr },
 }
 
 impl Model for Lent {
     ghost use base.Fml.{ftrue};
 
-    // It is data alone.
+    // The value is only data.
     ghost also_owns = { λ _. ftrue };
 }
 

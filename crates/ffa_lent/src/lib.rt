@@ -1,5 +1,5 @@
 // SPDX-License-Identifier: MIT OR Apache-2.0
-//! Makes RAM of pages that the caller lends, one by one or several that follow each other in memory.
+//! Makes RAM of pages that the caller lends, one page or several consecutive pages at a time.
 #![tactic(auto)]
 
 mod copying;

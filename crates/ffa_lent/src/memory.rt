@@ -1,5 +1,5 @@
 // SPDX-License-Identifier: MIT OR Apache-2.0
-//! Lent memory, and its history.
+//! Lent memory, with its history.
 ghost use Rattle.std.specs.Prelude.{◌≡◌, ◌<◌, [], length};
 ghost use Rattle.std.specs.Borrow.{sem, Lends, Array, u8 as byte};
 ghost use Rattle.ffa_model.specs.Ram.{page_of, with_word};
@@ -11,8 +11,8 @@ use ffa_model::PageNo;
 use ffa_physmem::{FrameRam, PhysMem, put_word};
 use std::alloc::Global;
 
-/// The frames of lent RAM, one page each, and the history of this RAM. A store adds one event to the history, and a loan adds two.
-/// So no code outside this file can write a frame without an event, or lend a page to store one word.
+/// The frames of lent RAM, one page each, and the history of this RAM. A store adds one event to the history, and a
+/// loan adds two. So no code outside this file can write to a frame without an event, or lend a page to store one word.
 #[derive(Drop)]
 pub struct Memory {
     frames: FrameRam<Lent, Global>,
@@ -23,7 +23,7 @@ impl Memory {
     ghost use Rattle.ffa_lent.specs.contracts.memory.Memory.{the_row};
     ghost use Rattle.ffa_lent.specs.Memory.{with_event, with_frame_bytes};
 
-    // These frames, with an empty history.
+    // Returns a value with these frames and an empty history.
     pub(crate) fn new(frames: FrameRam<Lent, Global>) -> Memory
         ensures frames { result.frames ≡ frames }
         ensures history { result.history.events ≡ [] }
@@ -41,7 +41,7 @@ impl Memory {
         self.frames
     }
 
-    // The frames, for reading.
+    // Returns the frames, for reading.
     #[inline(always)]
     pub(crate) fn frames(&self) -> &FrameRam<Lent, Global>
         ensures { result.now ≡ self.now.frames }
@@ -68,7 +68,7 @@ impl Memory {
         put_word(self.frames.page_mut(page), index, value);
     }
 
-    // Lends the bytes of a frame for writing. Two events are noted, so that no loan is one step as a store is.
+    // Lends the bytes of a frame for writing. A loan adds two events, so that no loan is one step as a store is.
     pub(crate) fn lend(&mut self, page: PageNo, begun: &Done, done: &Done) -> &mut [u8; 4096]
         requires { page.0 < length (frame_ram self.old.frames).pages }
         ensures value { result.now ≡ page_of (frame_ram self.old.frames) page.0 }

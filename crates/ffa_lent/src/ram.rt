@@ -14,8 +14,8 @@ use ffa_model::{Address, PageNo};
 use ffa_physmem::{FrameRam, Observed, PAGE_SIZE, PhysMem, put_word};
 use std::alloc::Global;
 
-/// RAM over lent pages, which may lie anywhere. Others may write to these pages. Each observed page has a copy, and the library
-/// reads and writes the copy instead of the page. So the library sees the bytes of one reading.
+/// RAM over lent pages, which may be anywhere in memory. Others may write to these pages. Each observed page has a
+/// copy, and the library reads and writes the copy instead of the page. So the library sees the bytes of one reading.
 #[derive(Drop)]
 pub struct LentRam {
     memory: Memory,
@@ -31,8 +31,12 @@ impl LentRam {
     ghost use Rattle.ffa_lent.specs.Doings.{IsAsked, event_of};
     ghost use Rattle.ffa_lent.specs.LentRam.{copies_of, is_observed, memory_of, places_of, ram_of};
 
-    /// RAM at this address over the lent pages, with their bytes. If the pages come without room for copies, `new` requests memory
-    /// for this room. If the allocator refuses, `new` returns the pages.
+    /// Returns RAM over the lent pages, with their bytes. Its base is this address. If the pages have no room for
+    /// copies, `new` allocates this room.
+    ///
+    /// # Errors
+    ///
+    /// The allocator has no memory for the room. The error returns the pages.
     pub fn new(alloc: Global, base: Address, frames: Frames) -> Result<LentRam, Frames>
         requires aligned { base.0 % 4096 ≡ 0 }
         requires fits { base.0 + 4096 * length frames.pages ≤ 2 ^ 32 }
@@ -67,7 +71,7 @@ impl LentRam {
         }
     }
 
-    // The event that begins now, before any byte changes.
+    // Returns the event that begins now, before any byte changes.
     #[inline(always)]
     fn doing(&self, _doing: &Doing<'_>) -> Done
         requires { IsAsked (ram_of self.now).base _doing.now.first.0 _doing.now.count _doing.now.what }
@@ -76,7 +80,7 @@ impl LentRam {
         Done {}
     }
 
-    // The place of a page's copy, if the page is observed.
+    // Returns the place of a page's copy, or `None` if the page is not observed.
     fn place(&self, page: PageNo) -> Option<usize>
         ensures value { result ≡ (if is_observed self.now page.0 then Some (page.0 - self.now.first.0) else None) }
         ensures within { IfSome result (λ place. place < vec_len self.now.copies) }
@@ -90,7 +94,7 @@ impl LentRam {
         }
     }
 
-    // Proof step: each copy has as many bytes as its frame.
+    // Proof step: each copy has the same number of bytes as its frame.
     fn look_at_copies(&self)
         ensures { (k : ℕ) → k < self.now.count → self.now.first.0 + k < length (memory_of self.now).pages
             → length (slice_index_or self.now.copies.items k [])
@@ -150,7 +154,8 @@ impl PhysMem for LentRam {
         self.memory.frames().page(page)
     }
 
-    // A write to an observed page changes only the copy, which `release` discards. As in `Memory::lend`, a loan is two events.
+    // A write to an observed page changes only the copy, which `release` discards. A loan is two events, as in
+    // `Memory::lend`.
     fn page_mut(&mut self, page: PageNo) -> &mut [u8; 4096] {
         let begun = self.doing(&Doing {
             first: page,
@@ -184,7 +189,7 @@ impl PhysMem for LentRam {
         self.memory.store(page, index, value, &done);
     }
 
-    // Others see the zeros before any later write.
+    // Requests from firmware that others see the zeros before any later write.
     fn clear_page(&mut self, page: PageNo)
         requires { page.0 < length (ram_of self.old).pages }
         ensures ram { ram_of self.new ≡ with_page (ram_of self.old) page.0 (replicate 4096 0) }

@@ -1,5 +1,5 @@
 // SPDX-License-Identifier: MIT OR Apache-2.0
-//! What firmware is asked, and where it hears that.
+//! The requests to firmware, and how the library sends them.
 ghost use Rattle.std.specs.Prelude.{◌≡◌};
 ghost use Rattle.ffa_lent.specs.Settling.{request_of};
 
@@ -7,7 +7,8 @@ use byteorder::{ByteOrder, LittleEndian};
 use ffa_model::{Address, EndpointId, PageNo};
 use ffa_physmem::PAGE_SIZE;
 
-/// A descriptor that no file has: firmware knows by it what is asked, and `write` of a C library does nothing.
+/// A file descriptor that no file has. Firmware recognises a request by it. The `write` of a C library does nothing
+/// with it.
 const SETTLES: i32 = -0xFFA;
 
 /// A request that the library has written for firmware. Only `ask` makes an `Asked`.
@@ -16,7 +17,7 @@ pub(crate) struct Asked<'a> {
     request: &'a [u8; 24],
 }
 
-/// Writes a request where firmware hears it.
+/// Writes a request to the file descriptor by which firmware receives requests.
 pub(crate) fn ask(request: &[u8; 24]) -> Asked<'_>
     ensures { result.request.now ≡ request.now }
 {
@@ -24,9 +25,10 @@ pub(crate) fn ask(request: &[u8; 24]) -> Asked<'_>
     Asked { request }
 }
 
-/// A request that pages of RAM at this address, from one on, are to be settled in the tables of the endpoint at a place: the
-/// endpoint's identifier, the address of the first page, and how many bytes the pages have. Each takes 8 bytes, the lowest
-/// first. Of no pages at all, what was written is still to be seen by others before anything that is written behind.
+/// Returns the request to settle `count` pages from `first` on, in the tables of the endpoint at a place. The RAM of
+/// the pages begins at `base`. The request has three numbers of 8 bytes, each with its lowest byte first. They are the
+/// endpoint's identifier, the address of the first page, and the size of the pages in bytes. With `count` 0, the
+/// request is that others see earlier writes before any later write.
 pub(crate) fn request(endpoint: usize, base: Address, first: PageNo, count: u32) -> [u8; 24]
     ensures { result ≡ request_of endpoint base.0 first.0 count }
 {

@@ -1,5 +1,5 @@
 // SPDX-License-Identifier: MIT OR Apache-2.0
-//! A page's memory as its pointer, or none.
+//! The memory of one page as its pointer, or a null pointer.
 ghost use Rattle.std.specs.Prelude.{◌≡◌, ℕ, List, Option, None, IsSome};
 ghost use Rattle.std.specs.Coded.{coded_list, coded_ℕ, coded_option};
 
@@ -7,12 +7,12 @@ use crate::lent::Lent;
 use std::alloc::Allocator;
 use std::marker::Model;
 
-/// The pointer to a page's memory of 4096 bytes, which owns it, or a pointer that owns nothing.
+/// A pointer to the memory of a page of 4096 bytes, which owns this memory. It can also be a pointer that owns nothing.
 #[repr(C)]
 pub struct Slot {
-    // It points to the page. C is told of bytes, as it is of a box that it holds.
+    // The pointer to the page. C sees a pointer to bytes, as for a box that C holds.
     pub(crate) at: *mut u8,
-    // It takes no bytes.
+    // The allocator has no bytes.
     pub(crate) lent: Lent,
     pub ghost bytes: { Option (List ℕ) } by { coded_option (coded_list coded_ℕ) },
 }
@@ -27,7 +27,7 @@ impl Model for Slot {
 impl Slot {
     ghost use Rattle.ffa_lent.specs.Places.{slot_of};
 
-    /// A null pointer, which owns nothing.
+    /// Returns a null pointer, which owns nothing.
     pub fn none() -> Slot
         ensures { result.bytes ≡ None }
     {
@@ -37,7 +37,7 @@ impl Slot {
         }
     }
 
-    /// The page behind this pointer.
+    /// Returns the pointer to this page's memory. The pointer owns the memory.
     pub fn close(page: Box<[u8; 4096], Lent>) -> Slot
         ensures { result ≡ slot_of page }
     {
@@ -48,7 +48,7 @@ impl Slot {
         }
     }
 
-    /// The page that is held, as its box.
+    /// Returns the page of this pointer as its box.
     pub fn open(self) -> Box<[u8; 4096], Lent>
         requires { IsSome self.bytes }
         ensures { self ≡ slot_of result }
@@ -57,7 +57,7 @@ impl Slot {
         unsafe { Box::from_raw(lent, at as *mut [u8; 4096]) }
     }
 
-    /// Lets a pointer go that owns nothing.
+    /// Ends a pointer that owns nothing.
     pub fn end(self)
         requires { self.bytes ≡ None }
     {

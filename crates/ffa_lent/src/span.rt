@@ -1,5 +1,5 @@
 // SPDX-License-Identifier: MIT OR Apache-2.0
-//! Pages side by side, which are lent at once.
+//! Consecutive pages that the caller lends together.
 ghost use Rattle.std.specs.Prelude.{◌≡◌, ℕ, ◌+◌, ◌<◌, ◌≤◌, ◌++◌, List, [], ◌∷◌, Some, IfErr, IfOk, length, option_map};
 ghost use Rattle.std.specs.Coded.{coded_list, coded_ℕ};
 
@@ -8,8 +8,8 @@ use crate::lent::Lent;
 use crate::slot::Slot;
 use std::marker::Model;
 
-/// The pointer to the memory of pages that stand side by side, 4096 bytes each, which owns them. It doesn't tell how many they
-/// are, and owns nothing where there are none.
+/// A pointer to the memory of consecutive pages of 4096 bytes, which owns this memory. It does not have the number of
+/// pages. If there are no pages, it owns nothing.
 #[repr(C)]
 pub struct Strip {
     at: *mut [u8; 4096],
@@ -26,7 +26,7 @@ impl Model for Strip {
 impl Strip {
     ghost use Rattle.ffa_lent.specs.Places.{places_in};
 
-    // A null pointer, which owns nothing.
+    // Returns a null pointer, which owns nothing.
     fn none() -> Strip
         ensures { result.pages ≡ [] }
     {
@@ -35,7 +35,7 @@ impl Strip {
         }
     }
 
-    // The first page, and those behind it.
+    // Returns the first page, and the pages after it.
     fn split(self) -> (Slot, Strip)
         requires { 0 < length self.pages }
         ensures pages { option_map (λ page. page ∷ result.1.pages) result.0.bytes ≡ Some self.pages }
@@ -47,7 +47,7 @@ impl Strip {
         (Slot { at, lent: Lent {} }, Strip { at: rest })
     }
 
-    // Lets a pointer go that owns nothing.
+    // Ends a pointer that owns nothing.
     fn end(self)
         requires { self.pages ≡ [] }
     {
@@ -55,12 +55,12 @@ impl Strip {
     }
 }
 
-/// Pages side by side, and how many they are, which may be none: a null pointer and 0, say.
+/// Consecutive pages, and their number. The number may be 0, for example with a null pointer.
 #[repr(C)]
 pub struct Span {
-    /// Where they are.
+    /// The pointer to the pages.
     pub strip: Strip,
-    // How many.
+    // The number of pages.
     count: usize,
     ghost counted: { count ≡ length strip.pages },
 }
@@ -68,7 +68,7 @@ pub struct Span {
 impl Span {
     ghost use Rattle.ffa_lent.specs.Places.{place_of, places_in};
 
-    /// No pages.
+    /// Returns a span without pages.
     pub fn none() -> Span
         ensures { result.strip.pages ≡ [] }
     {
@@ -78,14 +78,14 @@ impl Span {
         }
     }
 
-    /// The number of pages.
+    /// Returns the number of pages.
     pub fn pages(&self) -> usize
         ensures { result ≡ length self.now.strip.pages }
     {
         self.count
     }
 
-    /// The first page, and a span of those behind it.
+    /// Returns the first page, and a span of the pages after it.
     pub fn split_first(self) -> (Box<[u8; 4096], Lent>, Span)
         requires { 0 < length self.strip.pages }
         ensures pages { self.strip.pages ≡ result.0.value ∷ result.1.strip.pages }
@@ -100,7 +100,7 @@ impl Span {
         (first.open(), rest)
     }
 
-    /// Lets a span go that has no pages.
+    /// Ends a span that has no pages.
     pub fn end(self)
         requires { self.strip.pages ≡ [] }
     {
@@ -112,8 +112,12 @@ impl Span {
 impl Frames {
     ghost use Rattle.ffa_lent.specs.Places.{places_in};
 
-    /// Adds the pages of a span behind the others, in order. Where there is no room and no memory for all of them, they come
-    /// back, and nothing has changed.
+    /// Adds the pages of a span after the other pages, in order.
+    ///
+    /// # Errors
+    ///
+    /// There is no room for all of the pages, and the allocator has no memory for more room. The error returns the
+    /// span, and nothing changes.
     pub fn lend_span(&mut self, span: Span) -> Result<(), Span>
         ensures lent { IfOk result (λ _. self.new.pages ≡ self.old.pages ++ span.strip.pages) }
         ensures places { IfOk result (λ _. self.new.places ≡ self.old.places ++ places_in span.strip) }
