@@ -8,7 +8,7 @@ use ffa_model::{Address, PageNo};
 use std::alloc::{AllocError, Allocator, Global};
 use std::fmt;
 
-/// There is no memory for this much RAM.
+/// The error that the allocator has no memory for the RAM.
 #[derive(Clone, Copy, Debug, PartialEq, Eq)]
 pub struct NoMemory;
 
@@ -30,7 +30,7 @@ impl From<AllocError> for NoMemory {
     }
 }
 
-/// RAM in one piece.
+/// RAM in one piece of memory.
 #[derive(Drop)]
 pub struct FlatRam<A: Allocator = Global> {
     base: Address,
@@ -42,7 +42,11 @@ pub struct FlatRam<A: Allocator = Global> {
 impl FlatRam {
     ghost use Rattle.ffa_model.specs.Ram.{zero_ram};
 
-    /// RAM of this many pages, all zeros, from a page's address on. `NoMemory` comes only where the allocator refuses.
+    /// Returns RAM of this number of pages, which begins at this address and is all zeros.
+    ///
+    /// # Errors
+    ///
+    /// `NoMemory`: the allocator has no memory for the RAM. There is no other error.
     pub fn new(alloc: Global, base: Address, pages: u32) -> Result<FlatRam, NoMemory>
         requires aligned { base.0 % 4096 ≡ 0 }
         requires some { 1 ≤ pages }
@@ -56,7 +60,12 @@ impl FlatRam {
 impl<A: Allocator> FlatRam<A> {
     ghost use Rattle.ffa_model.specs.Ram.{zero_ram};
 
-    /// RAM as `new` makes it, over any allocator. `NoMemory` comes only where that refuses.
+    /// Returns RAM of this number of pages, which begins at this address and is all zeros. Its memory is from the
+    /// allocator that the caller passes.
+    ///
+    /// # Errors
+    ///
+    /// `NoMemory`: the allocator has no memory for the RAM. There is no other error.
     pub fn new_in(alloc: A, base: Address, pages: u32) -> Result<FlatRam<A>, NoMemory>
         requires aligned { base.0 % 4096 ≡ 0 }
         requires some { 1 ≤ pages }
@@ -68,7 +77,7 @@ impl<A: Allocator> FlatRam<A> {
     }
 }
 
-// Pages of zeros.
+// Returns this number of pages of zeros.
 fn zero_pages<A: Allocator>(alloc: A, count: u32) -> Result<Vec<[u8; 4096], A>, AllocError>
     ensures { IfOk result (λ v. v.items ≡ replicate count (replicate 4096 0)) }
 {
@@ -91,7 +100,7 @@ impl<A: Allocator> PhysMem for FlatRam<A> {
 
     ghost with_bytes = { λ m page bytes. record m { pages = with_item m.pages page bytes } };
 
-    // No record is kept, and no page is ever in a copy.
+    // This RAM stores no history, and no page is ever in a copy.
     ghost past = { λ _. unrecorded no_site };
 
     ghost beneath = { λ _. refl };
@@ -130,7 +139,7 @@ impl<A: Allocator> PhysMem for FlatRam<A> {
     fn settle(&mut self, _endpoint: usize, _first: PageNo, _count: u32) {}
 }
 
-// Nobody else writes to it, so each page is always what one reading gives.
+// Nobody else writes to this RAM. So each page always has the bytes of one reading.
 impl<A: Allocator> Observed for FlatRam<A> {
     ghost use Rattle.std.specs.Prelude.{true, false};
 

@@ -1,5 +1,5 @@
 // SPDX-License-Identifier: MIT OR Apache-2.0
-//! RAM in frames: a box of its own for each page.
+//! RAM in frames: each page has a box of its own.
 ghost use Rattle.std.specs.Prelude.{◌≡◌, ℕ, ◌+◌, ◌*◌, ◌%◌, ◌^◌, ◌<◌, ◌≤◌, length, map, replicate, IfOk, vec_len};
 
 use crate::flat::NoMemory;
@@ -8,8 +8,8 @@ use crate::observed::{Observed, Unshared};
 use ffa_model::{Address, PageNo};
 use std::alloc::{AllocError, Allocator, Global};
 
-/// RAM in frames of one page each, which need not lie side by side in memory. The list of them may be in memory of another
-/// allocator.
+/// RAM in frames of one page each, which need not be next to each other in memory. The list of frames may be in memory
+/// of another allocator.
 #[derive(Drop)]
 pub struct FrameRam<A: Allocator = Global, L: Allocator = A> {
     base: Address,
@@ -21,8 +21,12 @@ pub struct FrameRam<A: Allocator = Global, L: Allocator = A> {
 impl FrameRam {
     ghost use Rattle.ffa_model.specs.Ram.{zero_ram};
 
-    /// RAM of this many pages, all zeros, from a page's address on. `NoMemory` comes only where the allocator refuses, and
-    /// then all that was taken is given back.
+    /// Returns RAM of this number of pages, which begins at this address and is all zeros.
+    ///
+    /// # Errors
+    ///
+    /// `NoMemory`: the allocator has no memory for the RAM. There is no other error. The memory that it allocated is
+    /// then freed.
     pub fn new(alloc: Global, base: Address, pages: u32) -> Result<FrameRam, NoMemory>
         requires aligned { base.0 % 4096 ≡ 0 }
         requires some { 1 ≤ pages }
@@ -36,8 +40,13 @@ impl FrameRam {
 impl<A: Allocator + Copy> FrameRam<A> {
     ghost use Rattle.ffa_model.specs.Ram.{zero_ram};
 
-    /// RAM as `new` makes it, over any allocator. `NoMemory` comes only where that refuses, and then all that was taken
-    /// is given back.
+    /// Returns RAM of this number of pages, which begins at this address and is all zeros. Its memory is from the
+    /// allocator that the caller passes.
+    ///
+    /// # Errors
+    ///
+    /// `NoMemory`: the allocator has no memory for the RAM. There is no other error. The memory that it allocated is
+    /// then freed.
     pub fn new_in(alloc: A, base: Address, pages: u32) -> Result<FrameRam<A>, NoMemory>
         requires aligned { base.0 % 4096 ≡ 0 }
         requires some { 1 ≤ pages }
@@ -52,7 +61,7 @@ impl<A: Allocator + Copy> FrameRam<A> {
 impl<A: Allocator, L: Allocator> FrameRam<A, L> {
     ghost use Rattle.ffa_physmem.specs.FrameRam.{frames_of, ram_of};
 
-    /// RAM at this address, whose pages are these frames, with the bytes that are in them.
+    /// Returns RAM whose pages are these frames, with the bytes in them. Its base is this address.
     pub fn of(base: Address, frames: Vec<Box<[u8; 4096], A>, L>) -> FrameRam<A, L>
         requires aligned { base.0 % 4096 ≡ 0 }
         requires fits { base.0 + 4096 * vec_len frames ≤ 2 ^ 32 }
@@ -62,7 +71,7 @@ impl<A: Allocator, L: Allocator> FrameRam<A, L> {
         FrameRam { base, frames }
     }
 
-    /// The frames once more, with the bytes that RAM has.
+    /// Returns the frames, with the bytes of the RAM.
     pub fn into_frames(self) -> Vec<Box<[u8; 4096], A>, L>
         ensures bytes { map (λ b. b.value) result.items ≡ (ram_of self).pages }
         ensures frames { result.items ≡ frames_of self }
@@ -71,7 +80,11 @@ impl<A: Allocator, L: Allocator> FrameRam<A, L> {
     }
 }
 
-/// This many frames of zeros. An error is that the allocator refused, and then all that was taken is given back.
+/// Returns this number of frames of zeros.
+///
+/// # Errors
+///
+/// The allocator has no memory for the frames. The memory that it allocated is then freed.
 pub fn zero_frames<A: Allocator + Copy>(
     alloc: A,
     count: u32,
@@ -97,7 +110,7 @@ impl<A: Allocator, L: Allocator> PhysMem for FrameRam<A, L> {
 
     ghost with_bytes = { with_frame };
 
-    // No record is kept, and no page is ever in a copy.
+    // This RAM stores no history, and no page is ever in a copy.
     ghost past = { λ _. unrecorded no_site };
 
     ghost beneath = { λ _. refl };
@@ -136,7 +149,7 @@ impl<A: Allocator, L: Allocator> PhysMem for FrameRam<A, L> {
     fn settle(&mut self, _endpoint: usize, _first: PageNo, _count: u32) {}
 }
 
-// Nobody else writes to it, so each page is always what one reading gives.
+// Nobody else writes to this RAM. So each page always has the bytes of one reading.
 impl<A: Allocator, L: Allocator> Observed for FrameRam<A, L> {
     ghost use Rattle.std.specs.Prelude.{true, false};
 

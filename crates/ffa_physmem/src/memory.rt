@@ -1,5 +1,5 @@
 // SPDX-License-Identifier: MIT OR Apache-2.0
-//! What the manager needs of RAM.
+//! The trait of RAM, with the operations that the library needs.
 ghost use Rattle.std.specs.Prelude.{◌≡◌, ℕ, ◌+◌, ◌*◌, ◌%◌, ◌^◌, ◌<◌, ◌≤◌, List, ◌++◌, length, take, drop, replicate};
 ghost use Rattle.std.specs.Borrow.{sem, Lends, Array, u8 as byte};
 ghost use Rattle.ffa_model.specs.Ram.{Ram, page_of, with_page, word_of, with_word};
@@ -9,51 +9,53 @@ ghost use Rattle.ffa_physmem.specs.Work.{Spends, loans_of};
 use byteorder::{ByteOrder, LittleEndian};
 use ffa_model::{Address, PageNo};
 
-/// The bytes of a page.
+/// The size of a page in bytes.
 pub const PAGE_SIZE: usize = 4096;
 
-/// RAM: a base address and pages of 4096 bytes. No two pages need lie side by side in the implementation's memory.
+/// RAM: a base address and pages of 4096 bytes. Pages need not be next to each other in the memory of the
+/// implementation.
 ///
-/// Others may read this memory beside us at any moment, above all the processor's walk of the tables. So what `write_word`
-/// writes has to come out as one store of 64 bits, which no contract can say.
+/// Others may read this memory at any moment, above all the processor when it walks the tables. So `write_word` must
+/// write its word as one store of 64 bits. No contract can say this.
 pub trait PhysMem {
-    /// Where the RAM begins, and the bytes of each page as they are read and written here.
+    /// The base address of the RAM, and the bytes of each page as the library reads and writes them.
     ghost ram: { Self → Ram };
 
-    /// The bytes of memory itself, which the processor's walk and everybody else reads and writes.
+    /// The bytes of memory itself, which the processor's walk and all others read and write.
     ghost memory: { Self → Ram };
 
-    /// The same RAM with other bytes in one page.
+    /// The RAM with other bytes in one page.
     ghost with_bytes: { Self → ℕ → List ℕ → Self };
 
-    /// What was written to it so far: the steps, the last first; or nothing, where it keeps no record of them. What is
-    /// promised of steps is promised for every kind, so also for one that does. And what no step changes: where the memory of
-    /// its pages lies, and which pages are in copies.
+    /// The history of the RAM, and its site. The history has the steps until now, the last step first. RAM that keeps
+    /// no history has `None` instead. A clause about steps is for each kind of RAM, so also for RAM that keeps a
+    /// history. The site is the place of each page in memory, and the pages that are in copies. Only `observe` and
+    /// `release` change which pages are in copies.
     ghost past: { Self → Past };
 
-    /// The address of the first byte.
+    /// Returns the address of the first byte.
     fn base(&self) -> Address
         ensures value { result.0 ≡ (ram self.now).base }
         ensures aligned { result.0 % 4096 ≡ 0 }
         ensures within { result.0 + 4096 * length (ram self.now).pages ≤ 2 ^ 32 };
 
-    /// The number of pages.
+    /// Returns the number of pages.
     fn pages(&self) -> u32
         ensures { result ≡ length (ram self.now).pages };
 
-    /// The bytes of a page.
+    /// Returns the bytes of a page.
     fn page(&self, page: PageNo) -> &[u8; 4096]
         requires { page.0 < length (ram self.now).pages }
         ensures value { result.now ≡ page_of (ram self.now) page.0 }
         ensures whole { length (page_of (ram self.now) page.0) ≡ 4096 };
 
-    /// The bytes of a page, to be written. No other byte changes.
+    /// Returns the bytes of a page, for writing. No other page changes.
     fn page_mut(&mut self, page: PageNo) -> &mut [u8; 4096]
         requires { page.0 < length (ram self.old).pages }
         ensures value { result.now ≡ page_of (ram self.old) page.0 }
         ensures* writes_back { sem 𝓛 (Lends Self.row (Array byte 0) self.entry result (with_bytes self.old page.0)) };
 
-    /// The word at a place of a page, from 0 to 511: 8 bytes, the lowest first.
+    /// Returns the word at a place of a page, from 0 to 511. A word is 8 bytes, the lowest byte first.
     fn read_word(&self, page: PageNo, index: usize) -> u64
         requires page { page.0 < length (ram self.now).pages }
         requires index { index < 512 }
@@ -62,7 +64,7 @@ pub trait PhysMem {
         LittleEndian::read_u64(&self.page(page)[8 * index..])
     }
 
-    /// Writes the word at a place of a page, in one step.
+    /// Writes the word at a place of a page, from 0 to 511, in one step.
     fn write_word(&mut self, page: PageNo, index: usize, value: u64)
         requires page { page.0 < length (ram self.old).pages }
         requires index { index < 512 }
@@ -70,13 +72,14 @@ pub trait PhysMem {
             ram self.new ≡ with_page (ram self.old) page.0 (with_word old index value) }
         ensures steps { One (past self.old) (past self.new) (λ s. IsStore (ram self.old) page.0 index value s) };
 
-    /// Waits until all that was written is seen by every translation unit, and none holds anything that it read before of
-    /// these pages, from one on, in the tables of the endpoint at a place. RAM stays.
+    /// Waits until every translation unit sees all earlier writes. No translation unit then holds anything that it read
+    /// earlier of these pages, in the tables of the endpoint at a place. The pages are `count` pages from `first` on.
+    /// RAM does not change.
     fn settle(&mut self, endpoint: usize, first: PageNo, count: u32)
         ensures ram { ram self.new ≡ ram self.old }
         ensures steps { One (past self.old) (past self.new) (λ s. IsSettling (ram self.old) endpoint first.0 count s) };
 
-    /// Fills a page with zeros.
+    /// Fills a page with zeros. No other page changes.
     fn clear_page(&mut self, page: PageNo)
         requires { page.0 < length (ram self.old).pages }
         ensures ram { ram self.new ≡ with_page (ram self.old) page.0 (replicate 4096 0) }
@@ -86,7 +89,7 @@ pub trait PhysMem {
         *self.page_mut(page) = [0; PAGE_SIZE];
     }
 
-    /// Carries the first `count` bytes of one page to the front of another, whose other bytes stay.
+    /// Copies the first `count` bytes of one page to the front of another page. The other bytes of this page stay.
     fn copy(&mut self, from: PageNo, to: PageNo, count: usize)
         requires from { from.0 < length (ram self.old).pages }
         requires to { to.0 < length (ram self.old).pages }
@@ -101,28 +104,28 @@ pub trait PhysMem {
         put_front(self.page_mut(to), &buffer[..count]);
     }
 
-    /// Memory is what is read and written here, except beneath copies.
+    /// Memory has the bytes that the library reads and writes, except in pages that are in copies.
     ghost beneath: { (m : Self) → memory m ≡ memory_of (ram m) (past m) };
 
-    /// Only that page changes.
+    /// A write to the bytes of a page changes only this page.
     ghost one_page: { (m : Self) (page : ℕ) (bytes : List ℕ)
         → ram (with_bytes m page bytes) ≡ with_page (ram m) page bytes };
 
-    /// While a page is lent it may change in any number of steps, and nothing else does.
+    /// While a page is lent, it may change in any number of steps, and nothing else changes.
     ghost in_loan: { (m : Self) (page : ℕ) (bytes : List ℕ)
         → Only (past m) (past (with_bytes m page bytes)) (λ _ s. IsInLoan (ram m) page s) };
 
-    /// Of all these steps, one counts the loan.
+    /// The steps of a loan count as one loan.
     ghost one_loan: { (m : Self) (page : ℕ) (bytes : List ℕ)
         → Spends (past m) (past (with_bytes m page bytes)) (loans_of 1) };
 
-    /// Each step begins with the RAM with which the one before ended, the last ended with this one, and RAM stays where it
-    /// stands.
+    /// Each step begins with the RAM with which the step before it ended. The last step ended with this RAM. The base
+    /// address and the number of pages never change.
     // This is a law of each kind of RAM, so that no operation needs it as a premise.
     ghost in_turn: { (m : Self) → TurnsIn (ram m) (past m) };
 }
 
-/// Writes the word at a place of a page's bytes.
+/// Writes the word at a place of a page, from 0 to 511, the lowest byte first.
 pub fn put_word(page: &mut [u8; 4096], index: usize, value: u64)
     requires { index < 512 }
     ensures { page.new ≡ with_word page.old index value }
@@ -130,7 +133,7 @@ pub fn put_word(page: &mut [u8; 4096], index: usize, value: u64)
     LittleEndian::write_u64(&mut page[8 * index..], value);
 }
 
-/// Writes `source` over the first bytes of `target`, whose other bytes stay.
+/// Writes `source` over the first bytes of `target`. The other bytes of `target` stay.
 pub fn put_front(target: &mut [u8], source: &[u8])
     requires { length source.now ≤ length target.old }
     ensures { target.new ≡ source.now ++ drop (length source.now) target.old }

@@ -1,5 +1,5 @@
 // SPDX-License-Identifier: MIT OR Apache-2.0
-//! What a call needs of RAM whose pages others may write while it reads them.
+//! The traits of RAM whose pages others may write to during a call.
 ghost use Rattle.std.specs.Prelude.{◌≡◌, ℕ, ◌+◌, ◌<◌, ◌≤◌, Bool, true, false, length, if◌then◌else◌};
 ghost use Rattle.ffa_model.specs.declared.limits.TheConstants.{MOST_BUFFER_PAGES};
 ghost use Rattle.ffa_model.specs.Lists.{is_in_run};
@@ -9,28 +9,29 @@ ghost use Rattle.ffa_physmem.specs.Moments.{AgreeInFirst, IsBeside, HasNoCopies,
 use crate::memory::PhysMem;
 use ffa_model::PageNo;
 
-/// RAM to which others may write beside us. The first bytes of pages can be read at once: until these are released, they are
-/// what that one reading gave.
-// Observing is a step of the history, and its clauses name memory. Without the step, a body that never observes would meet
-// a clause about bytes, because RAM to which nobody else writes stays the same. Without memory, a body that copies another page
-// would meet a clause about what it sees.
+/// RAM to which others may write at the same time as the library. The library can observe the first bytes of pages. It
+/// then sees the bytes of one reading until it releases these pages.
+// Observing is a step of the history, and its clauses name memory. Without the step, a body that never observes would
+// meet a clause about bytes, because RAM to which nobody else writes stays unchanged. Without memory, a body that
+// copies another page would meet a clause about what it sees.
 pub trait Observed: PhysMem {
-    /// Whether, as far as contracts see, nobody else writes to memory.
+    /// Whether nobody else writes to memory, as far as contracts see.
     ghost is_alone: { Bool };
 
-    /// Whether pages that are observed are read and written in copies, beside what stands in memory.
+    /// Whether the library reads and writes copies of observed pages, instead of memory.
     ghost is_copying: { Bool };
 
-    /// Whether a call observes what it reads, because others may write to it at the same time.
+    /// Whether a call observes the pages that it reads, because others may write to them at the same time.
     ghost is_shared: { Bool };
 
-    /// Whether a call observes what it reads.
+    /// Whether a call observes the pages that it reads.
     fn is_shared(&self) -> bool
         ensures { result ≡ is_shared };
 
-    /// Reads so many bytes of pages, from the first of one on, to which others may write at the same time, while no page is
-    /// in a copy. Until `release` they are what this one reading gave, and that is what stood in memory; what stands behind
-    /// them in these pages is not read, and may be anything. Nothing is written to memory.
+    /// Observes the first `bytes` bytes of `count` pages from `first` on, to which others may write at the same time.
+    /// No page may be in a copy. Until `release`, the library sees the bytes that memory had at this one reading. The
+    /// function does not read the bytes after them in these pages, which may then have any values. It writes nothing to
+    /// memory.
     fn observe(&mut self, first: PageNo, count: u32, bytes: usize)
         requires within { first.0 + count ≤ length (Self.ram self.old).pages }
         requires few { count ≤ MOST_BUFFER_PAGES }
@@ -46,8 +47,8 @@ pub trait Observed: PhysMem {
         ensures step { OneMore (Self.past self.old).steps (Self.past self.new).steps
             (λ s. IsReading (Self.ram self.old) (Self.ram self.new) first.0 count true s) };
 
-    /// Ends what `observe` of the same pages began. From now on they are again what stands in memory, to which nothing was
-    /// written here.
+    /// Ends what `observe` of these pages began. The library then sees memory again. The function writes nothing to
+    /// memory.
     fn release(&mut self, first: PageNo, count: u32)
         requires within { first.0 + count ≤ length (Self.ram self.old).pages }
         requires only { (p : ℕ) → is_copied (Self.past self.old) p ≡ true → is_in_run first.0 count p ≡ true }
@@ -60,9 +61,9 @@ pub trait Observed: PhysMem {
             (λ s. IsReading (Self.ram self.old) (Self.ram self.new) first.0 count false s) };
 }
 
-/// RAM to which nobody else writes while a call is served, so that a call reads it where it stands.
+/// RAM to which nobody else writes during a call. So a call reads the pages themselves.
 pub trait Unshared: Observed {
-    /// No call observes what it reads.
+    /// No call observes the pages that it reads.
     ghost unshared: { Self.is_shared ≡ false };
 
     /// No page is ever in a copy.
