@@ -1,6 +1,6 @@
 // SPDX-License-Identifier: MIT OR Apache-2.0
-//! The certificates of machines with a cache or in RAM of frames, which C cannot have. Those of the library's machines, of each
-//! size, and tables with a bit flipped are tested in rust/tests/audits.rs.
+//! The certificates of machines with a cache or in RAM of frames, which C cannot have. The test rust/tests/audits.rs
+//! covers the certificates of the library's machines of each size, and tables with a flipped bit.
 use crate::checks::{holds, same};
 use crate::machines::{booted_in_frames, booted_with, four_in_turn};
 use ffa_model::{CertRun, PageNo, Rights};
@@ -12,7 +12,7 @@ use std::alloc::Global;
 use std::process::Abort;
 use std::test::Fail;
 
-// The run of pages that begins here.
+// Returns the run of pages that begins at this page.
 fn run_at<M: PhysMem + Drop, T: Translations + Drop>(
     machine: &Machine<M, T>,
     page: u32,
@@ -24,7 +24,7 @@ fn run_at<M: PhysMem + Drop, T: Translations + Drop>(
     }
 }
 
-// The runs of the machine's pages.
+// Returns the runs of the machine's pages.
 fn certificate<M: PhysMem + Drop, T: Translations + Drop>(
     alloc: Global,
     machine: &Machine<M, T>,
@@ -41,22 +41,23 @@ fn certificate<M: PhysMem + Drop, T: Translations + Drop>(
     Ok(runs)
 }
 
-// The last of three endpoints has this right to the first run.
+// Sets the right of the last of three endpoints to the first run.
 fn set_last_access(runs: &mut Vec<CertRun>, right: Option<Rights>) {
     if let Some(first) = runs.first_mut() {
         first.access[2] = right;
     }
 }
 
-// The last run begins a page later.
+// Makes the last run begin one page later.
 fn leave_a_gap(runs: &mut Vec<CertRun>) {
     if let Some(last) = runs.last_mut() {
         last.first = PageNo(last.first.0.saturating_add(1));
     }
 }
 
-// A machine gives its own certificate, which has a run for each endpoint, one before and one after; but not with a right
-// to the first run, not with a gap before the last, and not without the last.
+// Asserts that a machine's tables grant its own certificate, which has a run for each endpoint, one before and one
+// after. With a right added to the first run, with a gap before the last run, or without the last run, the audit is
+// false.
 fn check<M: PhysMem + Drop, T: Translations + Drop>(
     rt: &impl Abort,
     alloc: Global,

@@ -1,5 +1,6 @@
 // SPDX-License-Identifier: MIT OR Apache-2.0
-//! Machines in fresh RAM, and players on them. No contract says what they are, so no test that has one has to read it.
+//! Machines in fresh RAM, and players on them. No contract describes these machines, so the proof of a test does not
+//! read such a contract.
 use ffa_model::Manifest;
 use ffa_physmem::{FlatRam, FrameRam};
 use ffa_playable::Playable;
@@ -14,13 +15,13 @@ use std::test::Fail;
 // A player on a machine in flat RAM, without a cache.
 pub(crate) type FlatPlayer = Player<Explained<FlatRam>>;
 
-// A manifest's machine without a cache.
+// Returns a manifest's machine without a cache, in flat RAM.
 pub(crate) fn booted(alloc: Global, manifest: &Manifest) -> Result<Machine<FlatRam>, Fail> {
     let ram = FlatRam::new(alloc, manifest.ram_base, 512 * manifest.ram_blocks)?;
     Ok(Machine::boot(manifest, ram))
 }
 
-// The same with a cache, and in RAM of frames.
+// Returns a manifest's machine with this cache, in flat RAM. `booted_in_frames` uses RAM of frames.
 pub(crate) fn booted_with<T: Translations + Drop>(
     alloc: Global,
     manifest: &Manifest,
@@ -39,12 +40,12 @@ pub(crate) fn booted_in_frames<T: Translations + Drop>(
     Ok(Machine::boot_with(manifest, ram, cache))
 }
 
-// The cache of `--tlb`.
+// Returns the cache of the option `--tlb`.
 pub(crate) fn four_in_turn() -> Tlb<InTurn, 4> {
     Tlb::new(InTurn::default())
 }
 
-// Plays a trace. What it prints is added to what was printed before.
+// Plays a trace. Adds the text that it prints to `out`.
 pub(crate) fn play<P: Playable>(
     alloc: Global,
     player: &mut Player<P>,

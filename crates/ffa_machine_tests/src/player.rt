@@ -1,5 +1,5 @@
 // SPDX-License-Identifier: MIT OR Apache-2.0
-//! Operations in a list, plays one behind the other on the same player, and lines that come in pieces.
+//! Operations in a list, plays one after another on one player, and lines that come in pieces.
 use crate::checks::{holds, same, same_at};
 use crate::machines::{FlatPlayer, booted, play};
 use ffa_model::{Manifest, Op, Outcome, Size};
@@ -17,7 +17,7 @@ fn player(alloc: Global, manifest: &Manifest) -> Result<FlatPlayer, Fail> {
     Ok(Player::new(Explained(booted(alloc, manifest)?)))
 }
 
-// What comes of two operations.
+// Does two operations, and returns their outcomes.
 fn run(machine: &mut Machine<FlatRam>, ops: &[Op; 2]) -> [Outcome; 2] {
     let mut outcomes = [Outcome::Done; 2];
     machine.run(ops, &mut outcomes);
@@ -36,15 +36,15 @@ fn runs_operations_one_after_another(rt: HostRuntime) -> Result<(), Fail> {
     Ok(())
 }
 
-// Traces that one player plays one after another, each with the number of its bad line, or 0. The first has a line that no LF
-// ends.
+// Traces that one player plays one after another. Each has the number of its bad line, or 0. The first has a line
+// without an LF at its end.
 const TRACES: [(&str, u64); 3] = [
     ("load 40010000 1", 1),
     ("store 40010000 2A\nload 40010000 2\nload 4001\n", 3),
     ("load 40010000 1\n", 0),
 ];
 
-// How a trace ends whose bad line has this number.
+// Returns the end of a play whose trace has a bad line with this number, or no bad line for 0.
 fn end_of(bad: u64) -> Result<(), PlayError> {
     if bad == 0 {
         Ok(())
@@ -69,11 +69,11 @@ fn goes_on_behind_refused_lines(rt: HostRuntime) -> Result<(), Fail> {
     Ok(())
 }
 
-// Pieces of a trace, and what is printed when each has come.
+// Pieces of a trace. Each has the whole text that is printed after this piece.
 const PIECES: &str =
     "store 4001;|0000 2A\n;done\n|\n;done\n|load 40010000 1\nfet;done\ndata 2A\n|ch 0;done\ndata 2A\n|\n;done\ndata 2A\nfault translation\n";
 
-// A piece more has come.
+// Feeds one more piece to a player.
 fn fed(
     alloc: Global,
     player: &mut FlatPlayer,
@@ -84,7 +84,7 @@ fn fed(
     Ok(player.feed(alloc, begun, piece.as_bytes(), out)?)
 }
 
-// Bytes of a trace in pieces: each text is there as soon as the LF of its line has come.
+// A trace can come in pieces. The text of each line is printed as soon as the LF of the line has come.
 #[test]
 fn answers_each_line_when_its_end_has_come(rt: HostRuntime) -> Result<(), Fail> {
     let alloc = rt.alloc();

@@ -1,10 +1,10 @@
 // SPDX-License-Identifier: MIT OR Apache-2.0
-//! Calls worked out by hand, played on the machine with two partitions, where the traces of tests/rows can't say it: what is
-//! asked of a machine beside a play.
+//! Calls worked out by hand, and played on the machine with two partitions. They test what the traces of tests/rows
+//! cannot show, because a play is not enough for it.
 //!
-//! A row is a text of steps: a line of the trace, an arrow, and what it prints. Registers are written as
-//! `8001: 84000061 0 1`: the runner, then the registers without their leading zeros and without the last ones that are
-//! zero. What is printed below a first line stands below it.
+//! A row is a text of steps: a line of the trace, an arrow, and the text that the line prints. Registers are written as
+//! `8001: 84000061 0 1`: the runner, and then the registers. They have no leading zeros, and the last registers that
+//! are zero are omitted. If a line prints more than one line, the other lines follow below.
 use crate::checks::same;
 use crate::machines::{booted_in_frames, booted_with, four_in_turn, play};
 use ffa_model::Manifest;
@@ -16,34 +16,34 @@ use std::alloc::Global;
 use std::process::Abort;
 use std::test::Fail;
 
-// How many steps calls on memory take.
+// The number of steps of calls on memory.
 mod bound;
 
-// Rows on machines with a cache, and what it holds.
+// Rows on machines with a cache, and the leaves that the cache holds.
 mod cached;
 
-// Machines that keep the bytes with which their RAM came.
+// Machines that keep the bytes that were in their RAM before.
 mod held;
 
 // Steps of memory transactions.
 mod memory;
 
-// Which pages operations read.
+// The pages that operations read.
 mod reads;
 
 // Calls in RAM that keeps a record of its steps.
 mod recorded;
 
-// Rows where memory is short.
+// Rows on machines with little memory.
 mod refused;
 
 // Calls that read TX while others write to it.
 mod shifting;
 
-// Calls on memory, looked at after each write.
+// Calls on memory, with a look at the tables after each write.
 mod watched;
 
-// A trace, and the whole text that it is to print.
+// A trace, and the whole text that it must print.
 #[derive(Drop)]
 struct Row {
     trace: String,
@@ -57,7 +57,7 @@ impl Row {
         Row { trace, text }
     }
 
-    // A row of these parts.
+    // Returns the row of these parts.
     fn of(alloc: Global, parts: &[&str]) -> Result<Row, Fail> {
         let mut row = Row::new(alloc);
         for part in parts {
@@ -66,7 +66,7 @@ impl Row {
         Ok(row)
     }
 
-    // Adds steps.
+    // Adds steps to the row.
     fn add(&mut self, steps: &str) -> Result<(), Fail> {
         for step in steps.lines() {
             let mut outcome = step;
@@ -84,7 +84,7 @@ impl Row {
         Ok(())
     }
 
-    // The trace prints the text where the player is now.
+    // Asserts that this player prints the text for the trace.
     fn prints<P: Playable>(
         &self,
         rt: &impl Abort,
@@ -97,7 +97,7 @@ impl Row {
     }
 }
 
-// Plays steps, which print what is wanted.
+// Plays steps, and asserts that they print their texts.
 fn goes_on<P: Playable>(
     rt: &impl Abort,
     alloc: Global,
@@ -109,7 +109,7 @@ fn goes_on<P: Playable>(
     row.prints(rt, alloc, player)
 }
 
-// What a trace prints.
+// Plays a trace, and returns the text that it prints.
 fn played<P: Playable>(alloc: Global, player: &mut Player<P>, trace: &str) -> Result<String, Fail> {
     let mut printed = Vec::new(alloc);
     play(alloc, player, trace.as_bytes(), &mut printed)?;
@@ -120,7 +120,7 @@ fn text_of(printed: Vec<u8>) -> Result<String, Fail> {
     Ok(String::from_utf8(printed)?)
 }
 
-// Writes registers as they are printed.
+// Adds registers to a text, as a player prints them.
 fn push_registers(text: &mut String, runner: &str, registers: &str) -> Result<(), Fail> {
     text.push_str("regs ")?;
     push_padded(text, runner, 4)?;
@@ -132,7 +132,7 @@ fn push_registers(text: &mut String, runner: &str, registers: &str) -> Result<()
     Ok(())
 }
 
-// Writes digits with zeros before them, this many in all.
+// Adds digits with zeros before them, up to this width.
 fn push_padded(text: &mut String, digits: &str, width: usize) -> Result<(), Fail> {
     for _zero in digits.len()..width {
         text.push_str("0")?;

@@ -1,5 +1,5 @@
 // SPDX-License-Identifier: MIT OR Apache-2.0
-//! The player over readers and writers that stop, at each byte and for each reason.
+//! The player on readers and writers that stop, at each byte and for each reason.
 ghost use Rattle.std.specs.Prelude.{◌≡◌, IfOk};
 
 use crate::checks::{same, same_at};
@@ -19,12 +19,13 @@ const FIRST: &str = "call 84000069\nstore 40010000 2A\nload 40010000 1\nload 400
 const FIRST_TEXT: &str =
     "regs 0000 0000000084000061 0000000000000000 0000000000000000 0000000000000000 0000000000000000 0000000000000000 0000000000000000 0000000000000000\ndone\ndata 2A\nfault translation\nrunner 0000\npages 40000000 4000FFFF 8000 --- ---\npages 40010000 4001FFFF 0000 rw- ---\npages 40020000 4002FFFF 8001 --- rwx\npages 40030000 401FFFFF 8000 --- ---\n";
 
-// Where the first lines of FIRST end, from none on, and where their texts do.
+// The number of bytes of the first lines of FIRST, from no line on. The next constant has the number of bytes of their
+// texts.
 const LINES: [usize; 6] = [0, 14, 32, 48, 64, 69];
 
 const TEXTS: [usize; 6] = [0, 146, 151, 159, 177, 337];
 
-// Every kind of error, want of memory and interruption first.
+// Every kind of error, with lack of memory and interruption first.
 const KINDS: [ErrorKind; 42] = [
     ErrorKind::OutOfMemory,
     ErrorKind::Interrupted,
@@ -70,7 +71,8 @@ const KINDS: [ErrorKind; 42] = [
     ErrorKind::Uncategorized,
 ];
 
-// How a stream stops: it fails, or gives or takes nothing. It does so once, and goes on where it is asked again.
+// The way in which a stream stops. It fails with this error, or for `None` it passes no bytes. It does so once, and
+// goes on if it is called again.
 type Stop = Option<ErrorKind>;
 
 fn stopped(stop: Stop) -> io::Result<usize>
@@ -82,20 +84,20 @@ fn stopped(stop: Stop) -> io::Result<usize>
     }
 }
 
-// Gives bytes, at most `most` in one read, and stops before the rest.
+// A reader that returns at most `most` bytes in one read, and stops before the rest.
 #[derive(Drop)]
 struct Source<'a> {
     bytes: &'a [u8],
     rest: &'a [u8],
     most: usize,
     stop: Stop,
-    // How often it was asked for what a play never asks for: another method, or a read after it stopped.
+    // The number of calls that a play never makes: another method, or a read after the stream stopped.
     astray: usize,
     has_stopped: bool,
 }
 
 impl Source<'_> {
-    // Gives the first `left` bytes of FIRST, and then stops.
+    // Returns a reader that stops after the first `left` bytes of FIRST.
     fn cut(left: usize, most: usize, stop: Stop) -> Source<'static> {
         let (bytes, rest) = FIRST.as_bytes().split_at(left.min(FIRST.len()));
         Source {
@@ -133,14 +135,14 @@ impl Read for Source<'_> {
     }
 }
 
-// Takes bytes, at most `most` in one write, and stops after `room` of them.
+// A writer that takes at most `most` bytes in one write, and stops after `room` of them.
 #[derive(Drop)]
 struct Sink {
     taken: Vec<u8>,
     room: usize,
     most: usize,
     stop: Stop,
-    // As a source's.
+    // The number of calls that a play never makes: another method, or a write after the stream stopped.
     astray: usize,
     has_stopped: bool,
 }
@@ -183,7 +185,7 @@ impl Write for Sink {
     }
 }
 
-// What a play answered and wrote, also when it went on, and how often it asked for what it never asks for.
+// The result of a play, the text that it wrote, also after it went on, and the number of calls that a play never makes.
 #[derive(Debug, PartialEq, Drop)]
 struct Seen {
     played: Result<(), PlayError>,
@@ -195,7 +197,8 @@ fn demonstration(alloc: Global) -> Result<FlatPlayer, Fail> {
     Ok(Player::new(Explained(booted(alloc, &built_in())?)))
 }
 
-// Plays FIRST. The same player then loads what the second line stores, and goes on behind the first `done` lines.
+// Plays FIRST. The same player then loads the byte that the second line stores, and goes on after the first `done`
+// lines.
 fn play_first(
     alloc: Global,
     mut source: Source<'_>,
@@ -221,7 +224,7 @@ fn play_first(
     })
 }
 
-// What is to be seen where `written` bytes of the text were written and the first `done` lines were done.
+// Returns the expected result, if `written` bytes of the text were written and the first `done` lines were done.
 fn wanted(
     alloc: Global,
     played: Result<(), PlayError>,
@@ -241,17 +244,17 @@ fn wanted(
     })
 }
 
-// How many of these ends, but the first, are within so many bytes.
+// Returns the number of these ends, except the first, that are within this number of bytes.
 fn count_within(ends: &[usize; 6], bytes: usize) -> usize {
     ends.iter().skip(1).filter(|end| **end <= bytes).count()
 }
 
-// What the writer took where so many lines were done.
+// Returns the number of bytes that the writer took, if this number of lines was done.
 fn text_of(lines: usize) -> usize {
     TEXTS.get(lines).copied().unwrap_or_default()
 }
 
-// A read fails behind these bytes, of which each gives so many.
+// Asserts the result of a play whose reader fails after `left` bytes, with at most `most` bytes in a read.
 fn fails_to_read(rt: &impl Abort, alloc: Global, left: usize, most: usize) -> Result<(), Fail> {
     let source = Source::cut(left, most, Some(ErrorKind::Interrupted));
     let sink = Sink::new(alloc, usize::MAX, usize::MAX, None);
@@ -261,7 +264,7 @@ fn fails_to_read(rt: &impl Abort, alloc: Global, left: usize, most: usize) -> Re
     Ok(())
 }
 
-// Behind the bytes of whole lines may stand those of a line that hasn't ended, in one read with them or not.
+// After the bytes of whole lines, the reader may return bytes of a line that has not ended, in the same read or not.
 #[test]
 fn does_the_lines_before_a_failed_read(rt: HostRuntime) -> Result<(), Fail> {
     for left in 0..=FIRST.len() {
@@ -271,7 +274,7 @@ fn does_the_lines_before_a_failed_read(rt: HostRuntime) -> Result<(), Fail> {
     Ok(())
 }
 
-// How a trace of these bytes ends, of which these lines are whole.
+// Returns the end of a play of the first `left` bytes. The first `done` lines of these bytes are whole.
 fn end_of(left: usize, done: usize) -> Result<(), PlayError> {
     if LINES.contains(&left) {
         Ok(())
@@ -298,7 +301,7 @@ fn refuses_the_line_that_is_cut(rt: HostRuntime) -> Result<(), Fail> {
     Ok(())
 }
 
-// A write stops behind these bytes, of which each takes so many.
+// Asserts the result of a play whose writer stops after `room` bytes, with at most `most` bytes in a write.
 fn fails_to_write(
     rt: &impl Abort,
     alloc: Global,
@@ -314,7 +317,7 @@ fn fails_to_write(
     Ok(())
 }
 
-// The line whose text isn't written whole is done.
+// The line whose text is not written whole is done.
 #[test]
 fn does_the_lines_up_to_a_failed_write(rt: HostRuntime) -> Result<(), Fail> {
     for room in 0..FIRST_TEXT.len() {
@@ -324,7 +327,7 @@ fn does_the_lines_up_to_a_failed_write(rt: HostRuntime) -> Result<(), Fail> {
     Ok(())
 }
 
-// A reader fails in this way within the second line.
+// Asserts the result of a play whose reader fails with this kind of error in the second line.
 fn fails_to_read_by(rt: &impl Abort, alloc: Global, kind: ErrorKind) -> Result<(), Fail> {
     let source = Source::cut(20, usize::MAX, Some(kind));
     let sink = Sink::new(alloc, usize::MAX, usize::MAX, None);
@@ -333,7 +336,8 @@ fn fails_to_read_by(rt: &impl Abort, alloc: Global, kind: ErrorKind) -> Result<(
     Ok(())
 }
 
-// Want of memory of a reader or a writer isn't the player's, and nothing is tried again.
+// The player reports lack of memory of a reader or a writer as an error of the stream, not as its own. It tries nothing
+// again.
 #[test]
 fn tells_errors_of_each_kind_by_their_side(rt: HostRuntime) -> Result<(), Fail> {
     for kind in KINDS {

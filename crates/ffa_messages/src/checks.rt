@@ -1,5 +1,5 @@
 // SPDX-License-Identifier: MIT OR Apache-2.0
-//! The checks of calls that send messages, each of which names the first that fails (DEN0077A, 7.1 and 15).
+//! The checks of calls that send messages (DEN0077A, 7.1 and 15). Each function returns the first check that fails.
 ghost use Rattle.std.specs.Prelude.{◌≡◌, ◌+◌, ◌*◌, ◌≤◌, length, map, true, is_some, Some, OnOk, IfOk};
 ghost use Rattle.std.specs.Option.{option_map};
 ghost use Rattle.std.specs.Result.{result_err};
@@ -20,13 +20,18 @@ use ffa_physmem::PhysMem;
 use ffa_rxtx::{Buffers, Mapped};
 use ffa_schedule::Chain;
 
-/// How many bytes the header of a message has before FF-A 1.2.
+/// The number of bytes of a message's header before FF-A 1.2.
 const SHORT_HEADER: u32 = 20;
 
-/// How many bytes the header of a message has in FF-A 1.2, where a reserved word and a UUID follow. The manager reads neither.
+/// The number of bytes of a message's header in FF-A 1.2, where a reserved word and a UUID follow. The manager reads
+/// neither.
 const LONG_HEADER: u32 = 40;
 
-/// The checks of FFA_MSG_SEND_DIRECT_REQ in order: the first that fails, or the receiver, which may be asked.
+/// Makes the checks of FFA_MSG_SEND_DIRECT_REQ of the runner. Returns the receiver, which waits. Nothing changes.
+///
+/// # Errors
+///
+/// The first check of the call that fails.
 pub fn check_direct_req(
     chain: &Chain,
     manifest: &Manifest,
@@ -69,7 +74,12 @@ pub fn check_direct_req(
     Ok(receiver)
 }
 
-/// The checks of FFA_MSG_SEND_DIRECT_RESP in order: the first that fails, or the endpoint whose request is answered.
+/// Makes the checks of FFA_MSG_SEND_DIRECT_RESP of the runner. Returns the endpoint whose request the runner works on.
+/// Nothing changes.
+///
+/// # Errors
+///
+/// The first check of the call that fails.
 pub fn check_direct_resp(chain: &Chain, message: &DirectMessage) -> Result<EndpointId, Refusal>
     ensures refusal { result_err result ≡ first_refusal (response_guards chain.now message.now) }
     ensures requester { IfOk result (λ by. requester (work_in chain.now chain.now.runner) ≡ Some by.0) }
@@ -96,7 +106,7 @@ fn is_waiting(chain: &Chain, endpoint: EndpointId) -> bool
     matches!(chain.status(endpoint), Status::Waiting)
 }
 
-// The endpoint whose request the runner answers, if there is one.
+// Returns the endpoint whose request the runner works on, if there is one.
 pub(crate) fn requester(chain: &Chain) -> Option<EndpointId>
     ensures requester { option_map (λ (by : EndpointId). by.0) result ≡ requester (work_in chain.now chain.now.runner) }
     ensures sound { IsSound chain.now }
@@ -107,18 +117,19 @@ pub(crate) fn requester(chain: &Chain) -> Option<EndpointId>
     }
 }
 
-/// An indirect message that passes the checks of FFA_MSG_SEND2: where it stands, for whom it is, and how long.
+/// An indirect message that passes the checks of FFA_MSG_SEND2: its place, its receiver and its size.
 #[derive(Clone, Copy, PartialEq, Eq)]
 pub struct IndirectMessage {
     /// The sender's buffers. The message begins with the first byte of TX.
     pub from: Mapped,
     pub receiver: EndpointId,
-    /// How many bytes it has with its header.
+    /// The number of bytes of the message with its header.
     pub size: usize,
 }
 
 impl MessageHeader {
-    // The checks of a message by itself, in the TX of a caller of this form that has room for so many bytes there.
+    // Makes the checks of a message by itself. The caller has this form, and the caller's TX has `room` bytes. Returns
+    // the first check that fails.
     fn check(
         &self,
         manifest: &Manifest,
@@ -159,7 +170,7 @@ impl MessageHeader {
         Ok(())
     }
 
-    // The checks of a message's ends, which are the caller and the receiver.
+    // Makes the checks of a message's ends, which are the caller and the receiver. Returns the first check that fails.
     fn check_ends(
         &self,
         buffers: &Buffers,
@@ -193,7 +204,7 @@ impl MessageHeader {
     }
 }
 
-// How many bytes the header of a message has, by its sender's form.
+// Returns the number of bytes of a message's header, by its sender's form.
 fn header_size(version: Version) -> u32
     ensures { result ≡ message_header_size version }
 {
@@ -203,7 +214,11 @@ fn header_size(version: Version) -> u32
     }
 }
 
-/// The checks of FFA_MSG_SEND2 in order, of a caller of this form: the first that fails, or the message, which may be sent.
+/// Makes the checks of FFA_MSG_SEND2 of a caller with this form. Returns the message. Nothing changes.
+///
+/// # Errors
+///
+/// The first check of the call that fails.
 pub fn check_send2<M: PhysMem>(
     ram: &M,
     buffers: &Buffers,

@@ -11,14 +11,18 @@ use crate::checks::{check_direct_req, check_direct_resp};
 use ffa_model::{DirectMessage, ErrorCode, Manifest};
 use ffa_schedule::Chain;
 
-/// FFA_MSG_SEND_DIRECT_REQ of the runner (DEN0077A, 15): it is blocked, and the receiver, which waited, works for it and
-/// runs. The message itself is what the receiver sees.
+/// Sends a direct request: FFA_MSG_SEND_DIRECT_REQ of the runner (DEN0077A, 15). The runner is then blocked. The
+/// receiver, which waited, runs and works for the runner. The receiver sees the message itself.
 ///
 /// # Errors
 ///
-/// In this order: `InvalidParameters` where the message's sender isn't the runner, a flag is set, or the receiver is no
-/// endpoint or the runner itself; `Denied` where the receiver is the normal world, the runner doesn't send direct
-/// requests or the receiver doesn't receive them; `Busy` where the receiver doesn't wait. An error changes nothing.
+/// The first of these that applies. An error changes nothing.
+///
+/// - `InvalidParameters`: the message's sender is not the runner, a flag is set, or the receiver is not another
+///   endpoint.
+/// - `Denied`: the receiver is the normal world, the runner does not send direct requests, or the receiver does not
+///   receive them.
+/// - `Busy`: the receiver does not wait.
 #[inline(always)]
 pub fn direct_req(
     chain: &mut Chain,
@@ -37,13 +41,16 @@ pub fn direct_req(
     Ok(())
 }
 
-/// FFA_MSG_SEND_DIRECT_RESP of the runner (DEN0077A, 15): it waits, and the endpoint whose request it answers runs. The
-/// message itself is what that endpoint sees.
+/// Sends a direct response: FFA_MSG_SEND_DIRECT_RESP of the runner (DEN0077A, 15). The runner then waits. The endpoint
+/// whose request it worked on runs, and sees the message itself.
 ///
 /// # Errors
 ///
-/// In this order: `Denied` where the runner answers no request; `InvalidParameters` where the message's sender isn't the
-/// runner, its receiver isn't the endpoint that asked, or a flag is set. An error changes nothing.
+/// The first of these that applies. An error changes nothing.
+///
+/// - `Denied`: the runner works on no direct request.
+/// - `InvalidParameters`: the message's sender is not the runner, its receiver is not the endpoint that sent the
+///   request, or a flag is set.
 #[inline(always)]
 pub fn direct_resp(chain: &mut Chain, message: &DirectMessage) -> Result<(), ErrorCode>
     ensures refusal { result_err result ≡ first_failure (response_guards chain.old message.now) }

@@ -21,21 +21,21 @@ use ffa_model::{EndpointId, ErrorCode, Manifest, PageNo, Version};
 use ffa_physmem::{PAGE_SIZE, PhysMem};
 use ffa_rxtx::{Buffers, Mapped};
 
-/// The header with which a message in TX begins (DEN0077A, 7.1).
+/// The header at the start of a message in TX (DEN0077A, 7.1).
 #[derive(Clone, Copy, PartialEq, Eq)]
 pub struct MessageHeader {
     pub(crate) flags: u32,
     pub(crate) reserved: u32,
-    /// Where the payload begins, counted from the header's first byte.
+    /// The first byte of the payload, counted from the header's first byte.
     pub(crate) offset: u32,
     pub(crate) receiver: EndpointId,
     pub(crate) sender: EndpointId,
-    /// How many bytes the payload has.
+    /// The number of bytes of the payload.
     pub(crate) size: u32,
 }
 
 impl MessageHeader {
-    // The header in the first bytes of a page.
+    // Reads the header in the first bytes of a page.
     fn read(page: &[u8; 4096]) -> MessageHeader
         ensures { header_of result ≡ header_in page.now }
     {
@@ -49,7 +49,7 @@ impl MessageHeader {
         }
     }
 
-    // How many bytes the message has with its header.
+    // Returns the number of bytes from the header's first byte to the end of the payload.
     pub(crate) fn end(&self) -> usize
         ensures { result ≡ self.now.offset + self.now.size }
     {
@@ -57,7 +57,7 @@ impl MessageHeader {
     }
 }
 
-// The number in the two bytes of a page from this place on.
+// Reads the number in two bytes of a page, from this place on.
 fn u16_at(page: &[u8; 4096], place: usize) -> u16
     requires { place + 2 ≤ 4096 }
     ensures { result ≡ number_in page.now place 2 }
@@ -65,7 +65,7 @@ fn u16_at(page: &[u8; 4096], place: usize) -> u16
     LittleEndian::read_u16(&page[place..])
 }
 
-// The number in the four bytes of a page from this place on.
+// Reads the number in four bytes of a page, from this place on.
 fn u32_at(page: &[u8; 4096], place: usize) -> u32
     requires { place + 4 ≤ 4096 }
     ensures { result ≡ number_in page.now place 4 }
@@ -73,16 +73,20 @@ fn u32_at(page: &[u8; 4096], place: usize) -> u32
     LittleEndian::read_u32(&page[place..])
 }
 
-/// FFA_MSG_SEND2 of an endpoint of this form (DEN0077A, 15): the message in its TX, with the header, goes to the receiver's RX,
-/// which is full then. The other bytes of RX stay. Returns the receiver.
+/// Sends an indirect message: FFA_MSG_SEND2 of a caller with this form (DEN0077A, 15). Copies the message in the
+/// caller's TX, with its header, to the receiver's RX, which is then full. The other bytes of RX stay. Returns the
+/// receiver.
 ///
 /// # Errors
 ///
-/// In this order: `InvalidParameters` where the caller has no buffers, a flag or a reserved bit of the header is set,
-/// the header's sender isn't the caller, its receiver is no endpoint or the caller itself, the payload begins in the
-/// header, has no bytes or ends behind TX; `Denied` where the caller or the receiver takes no part in indirect messages;
-/// `Busy` where the receiver has no buffers or its RX is full; `NoMemory` where the message ends behind that RX. An error
-/// changes nothing.
+/// The first of these that applies. An error changes nothing.
+///
+/// - `InvalidParameters`: the caller has no buffers, or a flag or a reserved bit of the header is set.
+/// - `InvalidParameters`: the header's sender is not the caller, or its receiver is not another endpoint.
+/// - `InvalidParameters`: the payload begins in the header, has no bytes, or ends after the end of TX.
+/// - `Denied`: the caller or the receiver does not send and receive indirect messages.
+/// - `Busy`: the receiver has no buffers, or its RX is full.
+/// - `NoMemory`: the message does not fit the receiver's RX.
 pub fn send2<M: PhysMem>(
     ram: &mut M,
     buffers: &mut Buffers,
@@ -115,7 +119,7 @@ pub fn send2<M: PhysMem>(
     Ok(message.receiver)
 }
 
-// The header in TX of these buffers.
+// Reads the header in TX of these buffers.
 pub(crate) fn read_header<M: PhysMem>(ram: &M, from: &Mapped) -> MessageHeader
     requires { IsInRam (length (M.ram ram.now).pages) (buffers_of from.now) }
     ensures { header_of result ≡ header_in (run_in (M.ram ram.now) from.now.tx.0 from.now.pages) }
@@ -123,7 +127,7 @@ pub(crate) fn read_header<M: PhysMem>(ram: &M, from: &Mapped) -> MessageHeader
     MessageHeader::read(ram.page(from.tx))
 }
 
-// Copies as many bytes as this size from TX of these buffers to RX of an endpoint that has buffers.
+// Copies this number of bytes from TX of these buffers to RX of an endpoint that has buffers. That RX is then full.
 fn deliver<M: PhysMem>(
     ram: &mut M,
     buffers: &mut Buffers,
@@ -154,7 +158,7 @@ fn deliver<M: PhysMem>(
     }
 }
 
-// Copies as many bytes as this size from TX of some buffers to RX of others, page by page.
+// Copies this number of bytes from TX of some buffers to RX of others, page by page.
 fn copy_run<M: PhysMem>(ram: &mut M, from: &Mapped, to: &Mapped, size: usize)
     requires from { IsInRam (length (M.ram ram.old).pages) (buffers_of from.now) }
     requires to { IsInRam (length (M.ram ram.old).pages) (buffers_of to.now) }

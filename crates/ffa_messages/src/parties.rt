@@ -1,5 +1,5 @@
 // SPDX-License-Identifier: MIT OR Apache-2.0
-//! What each endpoint takes part in.
+//! The kinds of messages that each endpoint sends and receives.
 ghost use Rattle.std.specs.Prelude.{◌≡◌, map};
 ghost use Rattle.ffa_model.specs.First.{party_of};
 ghost use Rattle.ffa_model.specs.State.{has_property, properties_among};
@@ -7,8 +7,8 @@ ghost use Rattle.ffa_model.specs.State.{has_property, properties_among};
 use bitflags::Flags;
 use ffa_model::{EndpointId, Manifest, Properties};
 
-// What an endpoint takes part in. An identifier that is no endpoint's is read at its place, so each up to 0x8000 as the
-// normal world's; where the manifest has no such place it takes part in nothing.
+// Returns the properties of an endpoint. An identifier that names no endpoint is read at its place, so each identifier
+// up to 0x8000 has the normal world's properties. If the manifest has no such place, there are no properties.
 fn properties_of(manifest: &Manifest, endpoint: EndpointId) -> Properties
     ensures { result.0 ≡ properties_among (map party_of manifest.now.endpoints.items) endpoint.0 }
 {

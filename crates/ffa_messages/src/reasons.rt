@@ -35,7 +35,7 @@ impl MessageHeader {
         }
     }
 
-    // Returns the word that a check is about, or where the message ends, in a buffer of this size.
+    // Returns the word that a check is about, or the end of the message, in a buffer of this size.
     fn mend(&self, room: usize, refusal: Refusal) -> Option<Mend>
         ensures { result ≡ mend_header room (header_of self.now) refusal }
     {
@@ -54,15 +54,15 @@ impl MessageHeader {
     }
 }
 
-// A word of a header, by the place of its first byte.
+// Returns a word of a header, by the place of its first byte.
 fn word(place: u32, value: u32) -> Mend
     ensures { result ≡ Mend.Word place value }
 {
     Mend::Word { place, value }
 }
 
-/// Explains a check that refuses FFA_MSG_SEND2 of an endpoint: which end in the header the check is about, or the header's word, or
-/// where the message ends.
+/// Explains a check that refuses FFA_MSG_SEND2 of an endpoint. Returns the end in the header that the check is about,
+/// the header's word, or the end of the message.
 pub fn explain_message<M: PhysMem>(
     ram: &M,
     buffers: &Buffers,
@@ -83,7 +83,7 @@ pub fn explain_message<M: PhysMem>(
     }
 }
 
-/// Returns the one w1 that FFA_MSG_SEND_DIRECT_RESP may have, where the runner answers a request.
+/// Returns the one value of w1 that FFA_MSG_SEND_DIRECT_RESP may have, if the runner works on a direct request.
 pub fn mend_response(chain: &Chain) -> Option<Mend>
     ensures { result ≡ mend_response chain.now.runner (requester (work_in chain.now chain.now.runner)) }
 {
@@ -93,7 +93,7 @@ pub fn mend_response(chain: &Chain) -> Option<Mend>
     }
 }
 
-// Two endpoints in one register, the sender in the high half.
+// Returns two endpoints in one register, with the sender in the high half.
 fn word_of_two(sender: EndpointId, receiver: EndpointId) -> u32
     ensures { result ≡ word_of_two sender.0 receiver.0 }
 {

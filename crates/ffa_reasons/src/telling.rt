@@ -97,7 +97,7 @@ pub fn offered<M: PhysMem + Drop, T: Translations + Drop, S: Store>(
     Reasons::of(machine).offered(endpoint, page)
 }
 
-/// Whether the tables give what runs of pages say, which is true exactly if the runs give the state's access.
+/// Whether the tables grant what these runs of pages say. It is true exactly if the runs have the state's access.
 pub(crate) fn audit<M: PhysMem + Drop, T: Translations + Drop, S: Store>(
     machine: &Machine<M, T, S>,
     runs: &[CertRun],

@@ -1,12 +1,12 @@
 // SPDX-License-Identifier: MIT OR Apache-2.0
-//! RAM with a record of what was done to it.
+//! RAM with a record of its steps.
 ghost use Rattle.std.specs.Prelude.{◌≡◌, ◌<◌, ◌≤◌, ◌++◌, [], ◌∷◌, true, false, length, vec_len, if◌then◌else◌, IfOk};
 
 use ffa_model::{Address, PageNo};
 use ffa_physmem::{FlatRam, Observed, PhysMem};
 use std::alloc::{AllocError, Global};
 
-/// A page, and the bytes that it had.
+/// A page, and the bytes that it had before a step.
 #[derive(Drop)]
 pub struct PageBytes {
     page: PageNo,
@@ -21,7 +21,7 @@ pub struct Settling {
     count: u32,
 }
 
-/// Pages that are read at once from here on, or are so no longer.
+/// Pages at the start or at the end of a reading. From the start to the end, the pages are read at once.
 #[derive(Clone, Copy)]
 pub struct Reading {
     first: PageNo,
@@ -29,8 +29,8 @@ pub struct Reading {
     begins: bool,
 }
 
-/// What was done: a word was stored in a page, the bytes of a page were lent, filled with zeros or copied to, or pages were settled
-/// or read at once.
+/// A step on RAM. A word was stored in a page, or the bytes of a page were lent, filled with zeros or copied to. Or
+/// pages were settled, or a reading of pages began or ended.
 #[derive(Drop)]
 pub enum Noted {
     Stored(PageBytes),
@@ -39,13 +39,13 @@ pub enum Noted {
     Read(Reading),
 }
 
-/// RAM that keeps a record of the words that are written to it, of the pages that are lent, filled with zeros or copied, of what
-/// is settled and of what is read at once. The record ends where there is no memory for a step more, and where a page is lent
-/// and no room was made for that before.
+/// RAM that keeps a record of its steps: stored words, pages that were lent, cleared or copied to, and settled and read
+/// pages. The record ends if there is no memory for one more step. It also ends if a page is lent and no room was made
+/// for this step before.
 #[derive(Drop)]
 pub struct Recorded {
     ram: FlatRam,
-    // What was noted, in the first so many places. The others are room for more.
+    // The recorded steps, which are the first `noted` of these places. The other places are room for more steps.
     places: Vec<Noted>,
     noted: usize,
     is_kept: bool,
@@ -54,7 +54,11 @@ pub struct Recorded {
 impl Recorded {
     ghost use Rattle.ffa_recorded.specs.Loans.{noted_in, with_loan};
 
-    /// The same RAM, with nothing recorded yet, and room for so many steps.
+    /// Makes a RAM with an empty record, and with room for this number of steps, from this RAM.
+    ///
+    /// # Errors
+    ///
+    /// `AllocError`: the allocator has not enough memory for the record.
     pub fn new(alloc: Global, ram: FlatRam, steps: usize) -> Result<Recorded, AllocError>
         ensures ram { IfOk result (λ m. m.ram ≡ ram) }
         ensures noted { IfOk result (λ m. noted_in m ≡ []) }
@@ -69,7 +73,7 @@ impl Recorded {
         })
     }
 
-    /// How many steps were recorded, if the record goes on.
+    /// Returns the number of recorded steps. Returns `None` if the record has ended.
     pub fn steps(&self) -> Option<usize>
         ensures { result ≡ (if self.now.is_kept then Some self.now.noted else None) }
     {
@@ -79,7 +83,7 @@ impl Recorded {
         None
     }
 
-    // Notes one thing more, where there is room for it or memory for more room. Else the record ends.
+    // Notes one more step, if there is room for it or memory for more room. Otherwise the record ends.
     fn note(&mut self, noted: Noted)
         ensures ram { self.new.ram ≡ self.old.ram }
         ensures kept { self.new.is_kept ≡ true → self.old.is_kept ≡ true }
@@ -95,7 +99,8 @@ impl Recorded {
         self.noted = self.places.len();
     }
 
-    // Notes what a page holds, where there is room for that. Else the record ends.
+    // Notes the loan of a page, with the bytes that it holds, if there is room for this step. Otherwise the record
+    // ends.
     fn note_loan(&mut self, page: PageNo)
         requires { page.0 < length self.old.ram.pages.items }
         ensures { self.new ≡ with_loan self.old page.0 }
@@ -110,7 +115,7 @@ impl Recorded {
     }
 }
 
-// Places for so many steps.
+// Returns places for this number of steps.
 fn room_for(alloc: Global, steps: usize) -> Result<Vec<Noted>, AllocError>
     ensures { IfOk result (λ places. vec_len places ≡ steps) }
 {
@@ -195,7 +200,7 @@ impl PhysMem for Recorded {
     }
 }
 
-// Nobody else writes to this RAM, so each page is always what one reading gives.
+// Nobody else writes to this RAM, so each page always has the bytes of one reading.
 impl Observed for Recorded {
     ghost use Rattle.std.specs.Prelude.{true, false};
 

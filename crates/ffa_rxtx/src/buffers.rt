@@ -1,5 +1,5 @@
 // SPDX-License-Identifier: MIT OR Apache-2.0
-//! Who has mapped buffers, and which.
+//! The buffers that endpoints have mapped.
 ghost use Rattle.std.specs.Prelude.{◌≡◌, ℕ, ◌*◌, ◌<◌, ◌≤◌, ◌↔◌, IsTrue, IsSomeAnd, length, replicate, is_some, true, false, None, option_map};
 ghost use Rattle.ffa_model.specs.declared.limits.TheConstants.{MOST_ENDPOINTS};
 ghost use Rattle.ffa_model.specs.Buffers.{buffers_in, buffers_with, buffers_with_rx, is_full};
@@ -17,21 +17,21 @@ use ffa_model::{EndpointId, MOST_ENDPOINTS, PageNo};
 use ffa_physmem::{PAGE_SIZE, PhysMem, put_front};
 use std::marker::Model;
 
-/// The buffers of one endpoint: pages in a row each, as many for both.
+/// The buffers of one endpoint. Each is pages in a row, and both have the same number of pages.
 #[derive(Clone, Copy, PartialEq, Eq)]
 pub struct Mapped {
-    /// The first page that the endpoint writes for the manager to read.
+    /// The first page of TX, which the endpoint writes and the manager reads.
     pub tx: PageNo,
-    /// The first page in which the endpoint reads what the manager wrote.
+    /// The first page of RX, which the manager writes and the endpoint reads.
     pub rx: PageNo,
-    /// How many pages each has.
+    /// The number of pages of each buffer.
     pub pages: u32,
-    /// Whether RX holds bytes that the endpoint hasn't released.
+    /// Whether RX holds bytes that the endpoint has not released.
     pub is_full: bool,
 }
 
 impl Mapped {
-    /// How many bytes each of the two has.
+    /// Returns the number of bytes of each buffer.
     pub fn room(&self) -> usize
         ensures { result ≡ 4096 * self.now.pages }
     {
@@ -39,7 +39,7 @@ impl Mapped {
     }
 }
 
-/// Of each endpoint its buffers, if it has mapped any (DEN0077A, 7.2). They take no memory beyond themselves.
+/// The buffers of each endpoint, if it has mapped any (DEN0077A, 7.2). The value has no memory besides itself.
 #[derive(Drop)]
 pub struct Buffers {
     entries: ArrayVec<Option<Mapped>, MOST_ENDPOINTS>,
@@ -57,7 +57,7 @@ impl Model for Buffers {
 }
 
 impl Buffers {
-    /// This many endpoints, none of which has buffers.
+    /// Returns a value in which this number of endpoints have no buffers.
     pub fn none(endpoints: usize) -> Buffers
         requires { endpoints ≤ MOST_ENDPOINTS }
         ensures { result ≡ replicate endpoints None }
@@ -69,7 +69,7 @@ impl Buffers {
         Buffers { entries }
     }
 
-    /// The same buffers once more. It takes no memory.
+    /// Returns a copy of these buffers. It allocates no memory.
     pub fn copy(&self) -> Buffers
         ensures { result ≡ self.now }
     {
@@ -80,8 +80,8 @@ impl Buffers {
         Buffers { entries }
     }
 
-    /// The buffers of an endpoint, if it has mapped any. An identifier that is no endpoint's is read at its place, so
-    /// each up to 0x8000 as the normal world's.
+    /// Returns the buffers of an endpoint, if it has mapped any. An identifier that names no endpoint is read at its
+    /// place, so each identifier up to 0x8000 has the normal world's buffers.
     pub fn of(&self, endpoint: EndpointId) -> Option<Mapped>
         ensures { option_map buffers_of result ≡ buffers_in self.now endpoint.0 }
     {
@@ -100,7 +100,7 @@ impl Buffers {
         self.of(endpoint).is_some()
     }
 
-    /// Whether RX of an endpoint is full. Without buffers it isn't.
+    /// Whether RX of an endpoint is full. It is false for an endpoint without buffers.
     pub fn is_full(&self, endpoint: EndpointId) -> bool
         ensures { result ≡ is_full (buffers_in self.now endpoint.0) }
     {
@@ -110,7 +110,7 @@ impl Buffers {
         }
     }
 
-    /// Whether somebody has a buffer in a page from one up to another.
+    /// Whether a page from `first` on, and before `end`, is in a buffer of any endpoint.
     pub fn is_any_buffer(&self, first: PageNo, end: u32) -> bool
         ensures { IsTrue result ↔ (p : ℕ) × (first.0 ≤ p) × (p < end) × (is_buffer self.now p ≡ true) }
     {
@@ -120,8 +120,8 @@ impl Buffers {
             .any(|entry| is_any_in(*entry, first, end))
     }
 
-    /// Writes bytes, at most a page of them, to the start of RX of an endpoint that has buffers, and says that it is
-    /// full. The other bytes of RX stay.
+    /// Writes at most a page of bytes to the start of RX of an endpoint that has buffers, and marks RX as full. The
+    /// other bytes of RX stay.
     pub fn fill<M: PhysMem>(&mut self, ram: &mut M, endpoint: EndpointId, bytes: &[u8])
         requires known { is_known_among (length self.old) endpoint.0 ≡ true }
         requires rx { IsSomeAnd (buffers_in self.old endpoint.0) (λ b. IsInRam (length (M.ram ram.old).pages) b) }
@@ -138,8 +138,7 @@ impl Buffers {
         }
     }
 
-    /// Says that RX of an endpoint is full, if the endpoint has buffers, once its bytes have been written where they
-    /// lie.
+    /// Marks RX of an endpoint as full, if the endpoint has buffers. Call it after you have written the bytes to RX.
     pub fn mark_full(&mut self, endpoint: EndpointId)
         requires { is_known_among (length self.old) endpoint.0 ≡ true }
         ensures { self.new ≡ buffers_with_rx self.old endpoint.0 true }
@@ -147,7 +146,7 @@ impl Buffers {
         self.set_full(endpoint, true);
     }
 
-    /// Says that RX of an endpoint is empty, if the endpoint has buffers. Its bytes stay.
+    /// Marks RX of an endpoint as empty, if the endpoint has buffers. Its bytes stay.
     pub fn empty(&mut self, endpoint: EndpointId)
         requires { is_known_among (length self.old) endpoint.0 ≡ true }
         ensures { self.new ≡ buffers_with_rx self.old endpoint.0 false }
@@ -155,7 +154,7 @@ impl Buffers {
         self.set_full(endpoint, false);
     }
 
-    // Says of an endpoint's RX whether it is full.
+    // Marks RX of an endpoint as full or empty, if the endpoint has buffers.
     fn set_full(&mut self, endpoint: EndpointId, is_full: bool)
         ensures { self.new ≡ buffers_with_rx self.old endpoint.0 is_full }
     {
@@ -164,7 +163,7 @@ impl Buffers {
         }
     }
 
-    // Gives an endpoint these buffers in place of its own.
+    // Replaces the buffers of an endpoint.
     pub(crate) fn put(&mut self, endpoint: EndpointId, buffers: Option<Mapped>)
         requires { place endpoint.0 < length self.old }
         ensures { self.new ≡ buffers_with self.old endpoint.0 (option_map buffers_of buffers) }
@@ -173,7 +172,7 @@ impl Buffers {
     }
 }
 
-// Whether one of these buffers, if there are any, has a page from one up to another.
+// Whether a page from `first` on, and before `end`, is in one of these buffers, if there are any.
 fn is_any_in(buffers: Option<Mapped>, first: PageNo, end: u32) -> bool
     ensures { let own = option_map buffers_of buffers in
         IsTrue result ↔ (p : ℕ) × (first.0 ≤ p) × (p < end) × (have_page own p ≡ true) }
@@ -185,7 +184,7 @@ fn is_any_in(buffers: Option<Mapped>, first: PageNo, end: u32) -> bool
     }
 }
 
-// Whether a run of this many pages has one from another up to an end.
+// Whether a page from `first` on, and before `end`, is one of this number of pages of a run.
 fn has_page_in(run: PageNo, pages: u32, first: PageNo, end: u32) -> bool
     ensures { IsTrue result ↔ (p : ℕ) × (first.0 ≤ p) × (p < end) × (is_in_run run.0 pages p ≡ true) }
 {

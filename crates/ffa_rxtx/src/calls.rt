@@ -12,14 +12,19 @@ use ffa_model::{Address, EndpointId, ErrorCode, Room};
 use ffa_pages::{KeptPage, PageTable};
 
 impl Buffers {
-    /// FFA_RXTX_MAP of an endpoint, in the RAM of this table from `ram_base` on: TX and RX are as many pages as the
-    /// caller names, from these addresses on, and RX is empty.
+    /// Maps the buffers of an endpoint: FFA_RXTX_MAP. TX and RX begin at these addresses, and each has this number of
+    /// pages. RX is empty. The table has the owners of RAM's pages, and RAM begins at `ram_base`.
     ///
     /// # Errors
     ///
-    /// In this order: `Denied` where the caller has buffers; `InvalidParameters` where they aren't one to four pages,
-    /// an address isn't that of a page, a page isn't in RAM, or one is in both; `Denied` where a page isn't the
-    /// caller's, stands in an open transaction, or has an own right without rw. An error changes nothing.
+    /// The first of these that applies. An error changes nothing.
+    ///
+    /// - `Denied`: the caller has buffers already.
+    /// - `InvalidParameters`: the number of pages is not from 1 to 4.
+    /// - `InvalidParameters`: an address is not the start of a page, a page is not in RAM, or a page is in both
+    ///   buffers.
+    /// - `Denied`: the caller does not own a page, a page is in an open transaction, or the owner's right to a page is
+    ///   not rw.
     pub fn map<P: Room<KeptPage> + Drop>(
         &mut self,
         table: &PageTable<P>,
@@ -42,11 +47,15 @@ impl Buffers {
         Ok(())
     }
 
-    /// FFA_RXTX_UNMAP of an endpoint, with w1: the caller has no buffers then, whether RX was full or not.
+    /// Unmaps the buffers of an endpoint, whether RX is full or not: FFA_RXTX_UNMAP with this word in w1. The caller
+    /// then has no buffers.
     ///
     /// # Errors
     ///
-    /// `InvalidParameters` where the word isn't 0 or the caller has no buffers. An error changes nothing.
+    /// The first of these that applies. An error changes nothing.
+    ///
+    /// - `InvalidParameters`: the word is not 0.
+    /// - `InvalidParameters`: the caller has no buffers.
     pub fn unmap(&mut self, caller: EndpointId, endpoint_word: u32) -> Result<(), ErrorCode>
         requires { is_known_among (length self.old) caller.0 ≡ true }
         ensures refusal { let own = buffers_in self.old caller.0 in
@@ -59,11 +68,11 @@ impl Buffers {
         Ok(())
     }
 
-    /// FFA_RX_RELEASE of an endpoint: its RX is empty then.
+    /// Marks RX of an endpoint as empty: FFA_RX_RELEASE.
     ///
     /// # Errors
     ///
-    /// `Denied` where the caller has no buffers or its RX isn't full. An error changes nothing.
+    /// `Denied`: the caller has no buffers, or its RX is not full. An error changes nothing.
     pub fn rx_release(&mut self, caller: EndpointId) -> Result<(), ErrorCode>
         requires { is_known_among (length self.old) caller.0 ≡ true }
         ensures refusal { result_err result ≡ first_failure (release_guards (buffers_in self.old caller.0)) }

@@ -1,5 +1,5 @@
 // SPDX-License-Identifier: MIT OR Apache-2.0
-//! The checks that refuse a call on buffers, in the order of its errors.
+//! The checks of the calls on buffers. Each function returns the first check that fails.
 ghost use Rattle.std.specs.Prelude.{◌≡◌, ◌+◌, ◌<◌, ◌≤◌, length, is_some, IfOk, IfSome};
 ghost use Rattle.std.specs.List.{list_all};
 ghost use Rattle.std.specs.Result.{result_err};
@@ -14,7 +14,7 @@ use ffa_model::{Address, Data, EndpointId, MOST_BUFFER_PAGES, PageNo, Refusal, R
 use ffa_pages::{KeptPage, PageTable};
 
 impl Buffers {
-    /// The buffers that FFA_RXTX_MAP of an endpoint gives it. Nothing changes.
+    /// Makes the checks of FFA_RXTX_MAP of an endpoint. Returns the buffers that the call maps. Nothing changes.
     ///
     /// # Errors
     ///
@@ -57,7 +57,7 @@ impl Buffers {
         })
     }
 
-    /// The checks of FFA_RXTX_UNMAP of an endpoint, with w1. Nothing changes.
+    /// Makes the checks of FFA_RXTX_UNMAP of an endpoint, with this word in w1. Nothing changes.
     ///
     /// # Errors
     ///
@@ -75,11 +75,11 @@ impl Buffers {
         Ok(())
     }
 
-    /// The check of FFA_RX_RELEASE of an endpoint. Nothing changes.
+    /// Makes the check of FFA_RX_RELEASE of an endpoint. Nothing changes.
     ///
     /// # Errors
     ///
-    /// The check of the call, where it fails.
+    /// The check of the call, if it fails.
     pub fn check_release(&self, caller: EndpointId) -> Result<(), Refusal>
         ensures refusal { result_err result ≡ first_refusal (release_guards (buffers_in self.now caller.0)) }
     {
@@ -90,7 +90,7 @@ impl Buffers {
     }
 }
 
-// Whether two runs of this many pages have no page in common.
+// Whether two runs of this number of pages have no page in common.
 fn are_apart(first: PageNo, other: PageNo, pages: u32) -> bool
     ensures { result ≡ are_runs_apart pages first.0 other.0 }
 {
@@ -100,7 +100,8 @@ fn are_apart(first: PageNo, other: PageNo, pages: u32) -> bool
     first + pages <= other || other + pages <= first
 }
 
-// The first of this many pages at an address, if they are there.
+// Returns the first of this number of pages from an address on. Returns `None` if the address is not the start of a
+// page, or if not all the pages are in RAM.
 pub(crate) fn run_at<P: Room<KeptPage> + Drop>(
     table: &PageTable<P>,
     ram_base: Address,
@@ -122,7 +123,8 @@ pub(crate) fn run_at<P: Room<KeptPage> + Drop>(
     Some(PageNo(page as u32))
 }
 
-// Whether an endpoint owns each of this many pages alone and may write it.
+// Whether an endpoint owns each of this number of pages, no page is in an open transaction, and its own right to each
+// is rw.
 fn are_usable<P: Room<KeptPage> + Drop>(
     table: &PageTable<P>,
     endpoint: EndpointId,
@@ -142,7 +144,7 @@ fn are_usable<P: Room<KeptPage> + Drop>(
     true
 }
 
-// Whether an endpoint owns a page alone and may write it.
+// Whether an endpoint owns a page, the page is in no open transaction, and its own right to it is rw.
 pub(crate) fn is_usable<P: Room<KeptPage> + Drop>(
     table: &PageTable<P>,
     endpoint: EndpointId,

@@ -10,7 +10,7 @@ mod checks;
 // The calls.
 mod calls;
 
-// Why a call was refused: for diagnostics alone.
+// The explanation of a refused call, which only diagnostics use.
 mod reasons;
 
 pub use buffers::{Buffers, Mapped};

@@ -1,6 +1,6 @@
 // SPDX-License-Identifier: MIT OR Apache-2.0
-//! Why a call on buffers was refused: the first page that a mapping names and that can't be a buffer's. This serves
-//! diagnostics alone. No call is done by it and nothing is changed, so who audits the core can skip it.
+//! Explains why a call on buffers was refused, by the first page that cannot be in a buffer. Only diagnostics use this.
+//! It does no call and changes nothing, so an auditor of the core can skip it.
 ghost use Rattle.std.specs.Prelude.{◌≡◌, ◌+◌, ◌≤◌, length};
 ghost use Rattle.ffa_model.specs.About.{failing_map, first_failing, unusable_from};
 ghost use Rattle.ffa_model.specs.Buffers.{is_usable};
@@ -11,8 +11,8 @@ use crate::checks::{is_usable, run_at};
 use ffa_model::{Address, EndpointId, PageNo, Refusal, Room};
 use ffa_pages::{KeptPage, PageTable};
 
-/// The page that a check of FFA_RXTX_MAP of an endpoint is about, where it fails: the first page of TX, or of RX, that
-/// can't be one of its buffers.
+/// Returns the page that a failed check of FFA_RXTX_MAP of an endpoint is about. It is the first page of TX, or of RX,
+/// that cannot be in one of the endpoint's buffers.
 pub fn failing_map<P: Room<KeptPage> + Drop>(
     table: &PageTable<P>,
     ram_base: Address,
@@ -31,7 +31,8 @@ pub fn failing_map<P: Room<KeptPage> + Drop>(
     }
 }
 
-// The first of this many pages from an address on that an endpoint can't have a buffer in, where they are in RAM.
+// Returns the first of this number of pages, from an address on, that cannot be in a buffer of an endpoint. Returns
+// `None` if not all these pages are in RAM.
 fn unusable_from<P: Room<KeptPage> + Drop>(
     table: &PageTable<P>,
     ram_base: Address,
@@ -47,7 +48,8 @@ fn unusable_from<P: Room<KeptPage> + Drop>(
     }
 }
 
-// The first of this many pages that an endpoint doesn't own alone, or may not write.
+// Returns the first of this number of pages that an endpoint does not own, that is in an open transaction, or to which
+// the owner's right is not rw.
 fn first_unusable<P: Room<KeptPage> + Drop>(
     table: &PageTable<P>,
     endpoint: EndpointId,

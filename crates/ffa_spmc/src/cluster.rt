@@ -23,14 +23,15 @@ use ffa_physmem::{Observed, PhysMem};
 use ffa_tlb::{NoTlb, Translations};
 use std::marker::Model;
 
-/// A machine that several processors run: on each runs the normal world or a partition, and each partition on one at most.
-/// Contracts see the machine as the processor of the last operation does, and who runs on each other one.
+/// A machine that several processors run. On each processor either the normal world or a partition runs. A partition
+/// runs on at most one processor. Contracts see the machine as the processor of the last operation does, and the
+/// endpoint that runs on each other processor.
 #[derive(Drop)]
 pub struct Cluster<M: PhysMem + Drop, T: Translations + Drop = NoTlb, S: Store = Inline> {
     machine: Machine<M, T, S>,
-    // Which processor did the last operation.
+    // The processor that did the last operation.
     current: usize,
-    // Who runs on each other one. What stands here for that one itself counts for nothing.
+    // The endpoint that runs on each other processor. The entry of the current processor has no meaning.
     runners: ArrayVec<EndpointId, MOST_PROCESSORS>,
 }
 
@@ -58,7 +59,8 @@ impl<M: PhysMem + Drop, T: Translations + Drop, S: Store> Model for Cluster<M, T
 }
 
 impl<M: PhysMem + Drop, T: Translations + Drop, S: Store> Cluster<M, T, S> {
-    /// A machine of which the first processor did all operations so far: on all others the normal world runs.
+    /// Makes a machine of several processors from this machine, whose operations so far the first processor did. On all
+    /// other processors the normal world runs.
     pub fn of(machine: Machine<M, T, S>) -> Cluster<M, T, S>
         requires here { IsHere machine.state }
         requires free { HasNoCopies machine.past }
@@ -76,7 +78,7 @@ impl<M: PhysMem + Drop, T: Translations + Drop, S: Store> Cluster<M, T, S> {
         }
     }
 
-    /// The machine as the processor of the last operation sees it. Its RAM is memory itself.
+    /// Returns the machine as the processor of the last operation sees it. Its RAM is memory itself.
     pub fn machine(&self) -> &Machine<M, T, S>
         ensures machine { result.now ≡ self.now.machine }
         ensures memory { memory_in self.now.machine ≡ self.now.machine.ram }
@@ -84,8 +86,8 @@ impl<M: PhysMem + Drop, T: Translations + Drop, S: Store> Cluster<M, T, S> {
         &self.machine
     }
 
-    /// Selects a processor: from then on the machine is as that one sees it, and operations are of whoever runs there. A partition
-    /// that runs on another processor is BUSY.
+    /// Selects a processor. From then on the machine is as this processor sees it, and the operations are those that
+    /// the endpoint on this processor does. A partition that runs on another processor is busy (BUSY).
     pub fn select(&mut self, processor: usize)
         requires { processor < MOST_PROCESSORS }
         ensures machine { self.new.machine ≡ seen_by processor self.old }
@@ -94,7 +96,7 @@ impl<M: PhysMem + Drop, T: Translations + Drop, S: Store> Cluster<M, T, S> {
         if processor == self.current {
             return;
         }
-        // Proof step: the state is sound, so that who runs elsewhere may go on.
+        // Proof step: the state is sound, so the endpoint that runs elsewhere may go on.
         self.machine.holds();
         let runner = self.machine.runner();
         let next = self.runners[processor];
@@ -103,7 +105,9 @@ impl<M: PhysMem + Drop, T: Translations + Drop, S: Store> Cluster<M, T, S> {
         self.current = processor;
     }
 
-    /// Takes an interrupt on the selected processor: a partition that runs there is preempted, and the normal world runs.
+    /// Takes an interrupt on the selected processor. If a partition runs there, it is preempted, and the normal world
+    /// runs. The normal world then sees FFA_INTERRUPT, which names the partition. If the normal world runs there,
+    /// nothing changes.
     pub fn interrupt(&mut self) -> Outcome
         ensures outcome { result ≡ (interrupt self.old.machine.state).outcome }
         ensures machine { self.new.machine ≡ in_state self.old.machine (interrupt self.old.machine.state).state }
@@ -117,7 +121,8 @@ impl<M: PhysMem + Drop, T: Translations + Drop, S: Store> Cluster<M, T, S> {
         self.machine.interrupt()
     }
 
-    /// Whose access to which pages the last call on memory that was done has changed: reported once.
+    /// Returns the report of the access that the last successful call on memory changed, and clears it. The endpoint in
+    /// the report is the caller, or `None`, as after FFA_MEM_SHARE.
     pub fn take_change(&mut self) -> Option<Changed>
         ensures told { result ≡ self.old.machine.told }
         ensures rest { self.new ≡ record self.old { machine = record self.old.machine { told = None } } }
@@ -125,7 +130,7 @@ impl<M: PhysMem + Drop, T: Translations + Drop, S: Store> Cluster<M, T, S> {
         self.machine.take_change()
     }
 
-    /// Gives back the machine, as the selected processor sees it.
+    /// Ends the machine of several processors, and returns it as the selected processor sees it.
     pub fn into_machine(self) -> Machine<M, T, S>
         ensures machine { result ≡ self.machine }
         ensures free { HasNoCopies result.past }
@@ -133,7 +138,7 @@ impl<M: PhysMem + Drop, T: Translations + Drop, S: Store> Cluster<M, T, S> {
         self.machine
     }
 
-    // What holds of every machine that processors run.
+    // States what holds of every machine that several processors run.
     #[inline(always)]
     fn holds(&self)
         ensures placed { ArePlaced self.now.processors self.now.machine.state }
@@ -147,34 +152,35 @@ impl<M: PhysMem + Drop, T: Translations + Drop, S: Store> Cluster<M, T, S> {
 }
 
 impl<M: Observed + Drop, T: Translations + Drop, S: Store> Cluster<M, T, S> {
-    /// Does one operation of whoever runs on the selected processor, and fills in its effect. FFA_RUN of a preempted partition lets
-    /// that go on where it was.
+    /// Does one operation of the endpoint that runs on the selected processor, and writes its effect to `effect`.
+    /// FFA_RUN of a preempted partition lets the partition go on where it was.
     ///
-    /// Where others may write to the caller's TX, the call observes the bytes that it reads there, all at once.
+    /// If others may write to the caller's TX, the call first reads at once all bytes that it uses there.
     pub fn op(&mut self, op: &Op, effect: &mut Effect)
-        // All that `Machine::op` promises of an operation holds of it, with pages of TX as they were observed; or a preempted
-        // partition goes on, and all but the run states is as it was.
+        // Either the operation keeps all that `Machine::op` promises, with the pages of TX as they were observed. Or a
+        // preempted partition goes on, and only the run states change.
         ensures done { IsEffected M.is_shared self.old.machine op.now effect.new self.new.machine }
-        // Where nobody else writes, the outcome and the next state are exactly the small machine's.
+        // If nobody else writes, the outcome and the next state are exactly the small machine's.
         ensures alone { M.is_alone ≡ true → IsEffectedAlone self.old.machine.state op.now effect.new self.new.machine.state }
         ensures processors { self.new.processors ≡ self.old.processors }
 
-        // No page is in a copy any more, so memory is RAM, and each page lies where it lay.
+        // No page is in a copy any longer, so memory is RAM. Each page lies where it lay before.
         ensures memory { memory_in self.new.machine ≡ self.new.machine.ram }
         ensures places { self.new.machine.past.site.places ≡ self.old.machine.past.site.places }
 
-        // Whatever others wrote: walks give the access of the state, which is sound, and nothing that the cache holds is stale.
+        // Whatever others wrote, walks lead to exactly the access of the state, the state is sound, and the cache holds
+        // nothing that is stale.
         ensures agrees { Agrees self.new.machine.ram self.new.machine.state }
         ensures sound { IsSoundState self.new.machine.state }
         ensures walks { AreWalks self.new.machine }
         ensures unowned { KeepsUnowned self.old.machine.state self.old.machine.ram self.new.machine.ram }
     {
-        // Proof step: processors and state fit together, so that who was preempted may go on.
+        // Proof step: processors and state fit together, so a preempted partition may go on.
         self.holds();
         if let Some(target) = self.machine.resumed_by(op) {
             *effect = Effect::Resumed(target);
             self.machine.resume(target);
-            // Proof step: the tables give the access of the state, which is sound.
+            // Proof step: the tables grant the access of the state, which is sound.
             self.machine.holds();
             return;
         }
@@ -185,12 +191,12 @@ impl<M: Observed + Drop, T: Translations + Drop, S: Store> Cluster<M, T, S> {
         let read = self.machine.begin_reading(op);
         self.machine.do_op(op, outcome);
         self.machine.end_reading(read);
-        // Proof step: the tables give the access of the state, which is sound.
+        // Proof step: the tables grant the access of the state, which is sound.
         self.machine.holds();
     }
 }
 
-// How another processor sees whoever runs on this one.
+// Returns the status that another processor sees of the endpoint that runs on this one.
 fn left_status(runner: EndpointId) -> Status
     ensures { result ≡ left_status runner.0 }
 {
@@ -201,7 +207,7 @@ fn left_status(runner: EndpointId) -> Status
     }
 }
 
-// On a processor runs this endpoint.
+// Notes that this endpoint runs on a processor.
 fn note(runners: &mut ArrayVec<EndpointId, MOST_PROCESSORS>, processor: usize, runner: EndpointId)
     requires { processor < length runners.old.items }
     ensures { runners.new.items ≡ slice_set runners.old.items processor runner }

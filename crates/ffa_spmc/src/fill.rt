@@ -1,5 +1,5 @@
 // SPDX-License-Identifier: MIT OR Apache-2.0
-//! What a boot does with the bytes that RAM comes with.
+//! The choices of a boot about the bytes that are in RAM before it.
 ghost use Rattle.std.specs.Prelude.{◌≡◌, ◌≢◌, ℕ, ◌*◌, ◌<◌, length, replicate};
 ghost use Rattle.ffa_model.specs.Identifiers.{manager};
 ghost use Rattle.ffa_model.specs.Ram.{page_of, with_page, zero_ram};
@@ -10,20 +10,21 @@ use crate::manager::holds_bytes;
 use ffa_model::{EndpointId, Manifest, PageNo};
 use ffa_physmem::PhysMem;
 
-/// What a boot does with the bytes that RAM comes with, before it builds the tables there.
+/// The choice of a boot about the bytes that are in RAM before it. The boot acts on it before it builds the tables.
 #[derive(Clone, Copy, PartialEq, Eq)]
 pub enum Fill {
     /// The boot clears every page.
     Clear,
-    /// The boot clears nothing, since every byte is zero already, as in new memory.
+    /// The boot clears nothing. Every byte must be zero already, as in new memory.
     AlreadyZero,
-    /// The boot clears every page except those of the manifest's regions. So what was put there, as an image of a partition,
-    /// is there before the first operation.
+    /// The boot clears every page except the pages of the manifest's regions. So an image of a partition that you put
+    /// there is there before the first operation.
     KeepRegions,
 }
 
 impl Fill {
-    // Does that with RAM. Not inlined, so that no boot has its frame while it builds tables.
+    // Makes RAM ready for the tables, as this choice says. It is not inlined, so that the stack of a boot does not have
+    // its frame while the boot builds tables.
     #[inline(never)]
     pub(crate) fn prepare<M: PhysMem>(self, ram: &mut M, manifest: &Manifest)
         requires base { (M.ram ram.old).base ≡ manifest.now.ram_base.0 }
@@ -50,7 +51,7 @@ fn clear<M: PhysMem>(ram: &mut M)
     }
 }
 
-// Fills all pages with zeros but those of the manifest's regions, which keep their bytes.
+// Fills all pages with zeros, except the pages of the manifest's regions. They keep their bytes.
 fn clear_rest<M: PhysMem>(ram: &mut M, manifest: &Manifest)
     requires base { (M.ram ram.old).base ≡ manifest.now.ram_base.0 }
     requires size { length (M.ram ram.old).pages ≡ 512 * manifest.now.ram_blocks }
@@ -64,7 +65,7 @@ fn clear_rest<M: PhysMem>(ram: &mut M, manifest: &Manifest)
     }
 }
 
-// Fills a page with zeros where no region has it.
+// Fills a page with zeros, if no region has it.
 fn clear_unowned<M: PhysMem>(ram: &mut M, manifest: &Manifest, page: PageNo)
     requires { page.0 < length (M.ram ram.old).pages }
     ensures cleared { first_owner manifest.now page.0 ≡ manager
@@ -77,6 +78,6 @@ fn clear_unowned<M: PhysMem>(ram: &mut M, manifest: &Manifest, page: PageNo)
     if manifest.owner_of(page) == EndpointId::MANAGER {
         ram.clear_page(page);
     }
-    // Proof step: what the page holds are bytes.
+    // Proof step: the page holds bytes.
     holds_bytes(ram.page(page));
 }

@@ -1,5 +1,5 @@
 // SPDX-License-Identifier: MIT OR Apache-2.0
-//! What a machine keeps beside its RAM.
+//! The parts that a machine keeps besides its RAM.
 ghost use Rattle.std.specs.Prelude.{◌≡◌, ◌*◌, None, length, map, replicate};
 ghost use Rattle.ffa_model.specs.declared.limits.TheConstants.{MOST_OPEN};
 ghost use Rattle.ffa_model.specs.Lists.{listed};
@@ -18,32 +18,33 @@ use ffa_schedule::Chain;
 use ffa_setup::Versions;
 use ffa_stage2::Layout;
 
-/// What a machine keeps beside the RAM.
+/// The parts that a machine keeps besides its RAM.
 #[derive(Drop)]
 pub struct Kept<S: Store = Inline> {
     /// The manifest of the machine.
     pub manifest: Manifest,
-    /// Where the tables stand, and how many.
+    /// The places and the number of the tables.
     pub layout: Layout,
-    /// Who has bitmaps of notifications, which bits are bound, and which are pending.
+    /// The notifications: which endpoints have bitmaps, which bits are bound, and which bits are pending.
     pub bitmaps: Bitmaps,
-    /// Who owns each page.
+    /// The owner of each page.
     pub pages: PageTable<S::Pages>,
     /// The open memory transactions.
     pub pool: Pool<S::Open>,
-    /// Each endpoint's buffers.
+    /// The buffers of each endpoint.
     pub buffers: Buffers,
-    /// Who runs, and for whom.
+    /// The run states: which endpoint runs, and for which endpoint it works.
     pub chain: Chain,
-    /// In which form each endpoint writes and reads.
+    /// The form in which each endpoint writes and reads.
     pub versions: Versions,
 }
 
 impl<S: Store> Kept<S> {
-    /// What the machine of a manifest keeps at first: each page of a region is its endpoint's, nothing is open, nobody has
-    /// buffers, the normal world runs, and partitions that receive notifications have bitmaps, of which no bit is bound or
-    /// pending, and there is nothing to tell. Each endpoint has the form that the manifest gives it.
-    // Not inlined, so that the stack of its copies is free again when the tables are built.
+    /// Returns the parts of a manifest's machine in its first state, in this storage. Each page of a region belongs to
+    /// the region's endpoint. No transaction is open, nobody has buffers, and the normal world runs. Partitions that
+    /// receive notifications have bitmaps. No bit is bound or pending, and there are no notices. Each endpoint has the
+    /// form that the manifest sets for it.
+    // It is not inlined, so that the stack of its copies is free again when the boot builds the tables.
     #[inline(never)]
     pub fn first(manifest: &Manifest, storage: Storage<S>) -> Kept<S>
         requires { IsRoomFor manifest.now storage }
@@ -71,8 +72,8 @@ impl<S: Store> Kept<S> {
         }
     }
 
-    /// The same once more, in this room.
-    // Not inlined, so that the stack of its copies is free again when the copy is handed on.
+    /// Returns a copy of these parts, in this storage.
+    // It is not inlined, so that the stack of its copies is free again when the copy is passed on.
     #[inline(never)]
     pub fn copy_in<R: Store>(&self, storage: Storage<R>) -> Kept<R>
         requires pages { length storage.pages ≡ length self.now.pages }

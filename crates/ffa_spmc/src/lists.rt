@@ -16,33 +16,37 @@ ghost use Rattle.ffa_spmc.specs.Meanwhile.{AreDoneAmid, LeavesAmid};
 ghost use Rattle.ffa_spmc.specs.Operated.{IsOperated};
 ghost use Rattle.ffa_spmc.specs.Snapshot.{Snapshot};
 
-/// While an operation is done as `op` promises it, others may write into each page to which their walks, or what
-/// their translation units hold, let them write then. Whatever they write, a machine is left that differs from the promised
-/// one in bytes of these pages alone, so that the next operation may begin there; and to each of these pages some endpoint
-/// has the right to write, in the state before the operation or behind it.
+/// The law of an operation that does what `Machine::op` promises, while others write to memory. Others may write to
+/// each page to which their walks, or their translation units, let them write at that moment. Whatever they write, the
+/// result is a machine. It differs from the promised machine only in the bytes of these pages, so the next operation
+/// can begin there. To each of these pages, some endpoint has the right to write in the state before or after the
+/// operation.
 pub fn left_among_others()
     ensures operated { (old new : Snapshot) (op : Op) → IsOperated old op new → Agrees old.ram old.state
         → IsSoundState old.state → LeavesAmid old new }
-    // A list of operations, between which others write too: the state stays sound, and rights never grow.
+    // For a list of operations, between which others write too, the state stays sound, and rights never grow.
     ensures list { (old : Snapshot) (ops : List Op) (told : List Outcome) (new : Snapshot) → IsSoundState old.state
         → AreDoneAmid old ops told new → IsSoundState new.state × NeverGrow old.state new.state }
 {}
 
-/// Operations and interrupts of several processors are done one after another, each as `Cluster::select`, and then `Cluster::op` or
-/// `Cluster::interrupt` promise it of the state. What an endpoint sees, and its view afterwards, are the same from every state that it
-/// sees alike, with every list in which it does the same and learns the same. Rights never grow.
+/// The laws of acts, which are operations and interrupts of several processors, one after another. Each act changes the
+/// state as `Cluster::select`, and then `Cluster::op` or `Cluster::interrupt`, promise. Take an endpoint of the
+/// machine. Take another steady state in which it has the same view, and another list. If the endpoint does and learns
+/// the same in both lists, it sees the same, and its view is the same after them. Rights never grow.
 pub fn act_in_turn()
-    // What `Cluster::op` promises of the machine has this in it of the state, and lists need no more.
+    // The promise of `Cluster::op` on the machine contains this promise on the state. Lists do not need the rest.
     ensures served { (shared : Bool) (old new : Snapshot) (op : Op) (effect : Effect) → IsEffected shared old op effect new
         → IsServed shared old.state op effect new.state }
-    // So it has if others may write, and nobody does.
+    // If others may write, but nobody does, the operation is as if nobody may write.
     ensures unshared { (shared : Bool) (old new : Snapshot) (op : Op) (effect : Effect) → IsEffected shared old op effect new
         → IsEffectedAlone old.state op effect new.state → IsServed false old.state op effect new.state }
-    // In RAM to which nobody else writes they have the effects and leave the state that the definitions give for the list.
+    // In RAM to which nobody else writes, acts have the effects and lead to the state that the definitions name for the
+    // list.
     ensures alone { (old : Shared) (acts : List (ℕ × Act)) (told : List Effect) (new : Shared) → IsSoundShared old
         → are_there old acts ≡ true → AreActed false false old acts told new → IsRunOfActs old acts told new }
-    // Others may write to the TX of whoever acts, and between acts into whatever they may. What they write are stores of endpoints between
-    // the acts. If they write only during acts, these are stores of whoever acts, into the pages that the act sees at once.
+    // Others may write to the TX of the endpoint that acts, and between acts to any page to which they may write. These
+    // writes are stores of endpoints between the acts. If others write only during acts, these are stores of the
+    // endpoint that acts, into the pages that the act sees at once.
     ensures among { (shared between : Bool) (old : Shared) (acts : List (ℕ × Act)) (told : List Effect) (new : Shared)
         → IsSoundShared old → are_there old acts ≡ true → AreActed shared between old acts told new
         → IsRunOfTurns shared between old acts told new }

@@ -1,5 +1,5 @@
 // SPDX-License-Identifier: MIT OR Apache-2.0
-//! The machine.
+//! The machine of one runner at a time, and its operations.
 ghost use Rattle.std.specs.Prelude.{None, [], ◌≡◌, ℕ, ◌*◌, ◌<◌, ◌≤◌, length};
 ghost use Rattle.ffa_model.specs.declared.limits.TheConstants.{MOST_ENDPOINTS};
 ghost use Rattle.ffa_model.specs.Access.{access};
@@ -41,8 +41,8 @@ use ffa_physmem::PhysMem;
 use ffa_tlb::{NoTlb, Translations};
 use std::marker::Model;
 
-/// A machine over any RAM, with any cache of leaves. Contracts see its state, which is that of the small machine, its RAM
-/// with every byte, what the cache holds, and what the machine tells of access that changed.
+/// A machine over any RAM, with any cache of leaves. Contracts see its state, which is the small machine's, and its RAM
+/// with every byte. They also see the entries of the cache, and the report of changed access.
 #[derive(Drop)]
 pub struct Machine<M: PhysMem + Drop, T: Translations + Drop = NoTlb, S: Store = Inline> {
     manager: Manager<M, S>,
@@ -62,15 +62,15 @@ impl<M: PhysMem + Drop, T: Translations + Drop, S: Store> Model for Machine<M, T
 
     ghost view = { λ m. snapshot_of m.manager (T.entries m.cache) m.news };
 
-    // No answer that is held is stale, and the tables are at rest.
+    // No entry of the cache is stale, and the tables are at rest.
     ghost invariant = { λ m.
         AreWalks (snapshot_of m.manager (T.entries m.cache) m.news)
         × TablesRest m.manager.state m.manager.ram m.manager.past };
 }
 
 impl<M: PhysMem + Drop> Machine<M> {
-    /// The machine of a manifest in its first state: it clears the RAM and builds the tables. All pages but the
-    /// tables' are zeros, the manager's too. Each of its accesses walks the tables.
+    /// Boots the machine of a manifest in its first state. Clears the RAM and builds the tables. So all pages are zeros
+    /// except the tables' pages, also the manager's. Each access of the machine walks the tables.
     pub fn boot(manifest: &Manifest, ram: M) -> Machine<M>
         requires base { (M.ram ram).base ≡ manifest.now.ram_base.0 }
         requires size { length (M.ram ram).pages ≡ 512 * manifest.now.ram_blocks }
@@ -83,7 +83,8 @@ impl<M: PhysMem + Drop> Machine<M> {
 }
 
 impl<M: PhysMem + Drop, T: Translations + Drop> Machine<M, T> {
-    /// The same machine, with a cache that holds nothing at first.
+    /// Boots the machine of a manifest in its first state, with this cache. Clears the RAM and the cache, and builds
+    /// the tables.
     pub fn boot_with(manifest: &Manifest, ram: M, cache: T) -> Machine<M, T>
         requires base { (M.ram ram).base ≡ manifest.now.ram_base.0 }
         requires size { length (M.ram ram).pages ≡ 512 * manifest.now.ram_blocks }
@@ -98,10 +99,11 @@ impl<M: PhysMem + Drop, T: Translations + Drop> Machine<M, T> {
 }
 
 impl<M: PhysMem + Drop, T: Translations + Drop, S: Store> Machine<M, T, S> {
-    /// Boots the machine of a manifest in its first state, with room of the caller's for what the machine keeps of pages and open
-    /// transactions. It does with the bytes of the RAM what `fill` says, and then builds the tables. All pages except the
-    /// tables' and those that `fill` keeps are zeros. The cache holds nothing.
-    // Not inlined, since its frame holds copies of what the machine keeps, which no caller needs once it runs.
+    /// Boots the machine of a manifest in its first state, in this storage, which has room for the data on pages and
+    /// open transactions. `fill` says which pages the boot clears before it builds the tables. After the boot, all
+    /// pages are zeros except the tables' pages and those that `fill` keeps. The cache holds nothing.
+    // It is not inlined, because its frame holds copies of the machine's parts, which no caller needs once the machine
+    // runs.
     #[inline(never)]
     pub fn boot_in(
         storage: Storage<S>,
@@ -126,7 +128,8 @@ impl<M: PhysMem + Drop, T: Translations + Drop, S: Store> Machine<M, T, S> {
         Machine::first(manifest, ram, cache, storage)
     }
 
-    // The machine of a manifest, with this room, in RAM of which all is zeros but what the manifest's regions hold.
+    // Returns the machine of a manifest in its first state, in this storage. The RAM is all zeros, except the pages of
+    // the manifest's regions.
     #[inline(always)]
     fn first(manifest: &Manifest, ram: M, cache: T, storage: Storage<S>) -> Machine<M, T, S>
         requires ram { IsReadyFor manifest.now (M.ram ram) }
@@ -146,7 +149,7 @@ impl<M: PhysMem + Drop, T: Translations + Drop, S: Store> Machine<M, T, S> {
         }
     }
 
-    /// The RAM, whose bytes are all that the machine keeps of tables and data.
+    /// Returns the RAM. Its bytes are all that the machine keeps of tables and data.
     pub fn ram(&self) -> &M
         ensures ram { M.ram result.now ≡ self.now.ram }
         ensures past { M.past result.now ≡ self.now.past }
@@ -155,8 +158,8 @@ impl<M: PhysMem + Drop, T: Translations + Drop, S: Store> Machine<M, T, S> {
         self.manager.ram()
     }
 
-    /// Ends the machine, and gives back its RAM with the bytes that it has in the end, and the room for another machine, which is for
-    /// as many pages.
+    /// Ends the machine, and returns its RAM with all bytes and its storage. The storage has room for another machine
+    /// with the same number of pages.
     pub fn into_parts(self) -> (M, Storage<S>)
         ensures ram { M.ram result.0 ≡ self.ram }
         ensures past { M.past result.0 ≡ self.past }
@@ -170,7 +173,7 @@ impl<M: PhysMem + Drop, T: Translations + Drop, S: Store> Machine<M, T, S> {
         manager.into_parts()
     }
 
-    /// The cache. Whatever it answers is what the walk of a page's first address answers now.
+    /// Returns the cache. An entry of the cache is what the walk of its page's first address returns now.
     pub fn cache(&self) -> &T
         ensures held { T.entries result.now ≡ self.now.held }
         ensures walks { AreWalks self.now }
@@ -178,8 +181,8 @@ impl<M: PhysMem + Drop, T: Translations + Drop, S: Store> Machine<M, T, S> {
         &self.cache
     }
 
-    /// Whose access to which pages the last call on memory that was done has changed: told once. It is the caller's, or
-    /// nobody's, as of a share.
+    /// Returns the report of the access that the last successful call on memory changed, and clears it. The endpoint in
+    /// the report is the caller, or `None`, as after FFA_MEM_SHARE.
     pub fn take_change(&mut self) -> Option<Changed>
         ensures told { result ≡ self.old.told }
         ensures rest { self.new ≡ record self.old { told = None } }
@@ -187,14 +190,14 @@ impl<M: PhysMem + Drop, T: Translations + Drop, S: Store> Machine<M, T, S> {
         self.news.take()
     }
 
-    /// The endpoint that runs.
+    /// Returns the endpoint that runs.
     pub fn runner(&self) -> EndpointId
         ensures { result.0 ≡ self.now.state.runner }
     {
         self.manager.runner()
     }
 
-    /// The number of endpoints, from 1 to 8.
+    /// Returns the number of endpoints, from 1 to 8.
     pub fn endpoints(&self) -> usize
         ensures number { result ≡ length self.now.state.parties }
         ensures some { 1 ≤ result }
@@ -203,7 +206,7 @@ impl<M: PhysMem + Drop, T: Translations + Drop, S: Store> Machine<M, T, S> {
         self.manager.endpoints()
     }
 
-    /// The owner of a page of the RAM; 0x8000 is the manager.
+    /// Returns the owner of a page of the RAM. 0x8000 is the manager.
     pub fn owner_of(&self, page: PageNo) -> EndpointId
         requires { page.0 < length self.now.state.pages }
         ensures { result.0 ≡ owner_of self.now.state page.0 }
@@ -211,30 +214,33 @@ impl<M: PhysMem + Drop, T: Translations + Drop, S: Store> Machine<M, T, S> {
         self.manager.owner_of(page)
     }
 
-    /// The right of an endpoint to a page: nothing outside the RAM, or for an endpoint that isn't there.
+    /// Returns the right of an endpoint to a page. Returns `None` if the endpoint has no access, the page is outside
+    /// the RAM, or the machine has no such endpoint.
     pub fn access(&self, endpoint: EndpointId, page: PageNo) -> Option<Rights>
         ensures { result ≡ access self.now.state endpoint.0 page.0 }
     {
         self.manager.access(endpoint, page)
     }
 
-    /// Whether an endpoint has a notification pending: whether FFA_NOTIFICATION_GET of all classes would give it a bit. Of an
-    /// endpoint that isn't there none is.
+    /// Whether FFA_NOTIFICATION_GET of all classes would return a bit to this endpoint, because a notification of it is
+    /// pending. It is false if the machine has no such endpoint.
     pub fn has_pending(&self, endpoint: EndpointId) -> bool
         ensures { result ≡ has_pending (notifications_of self.now.state) endpoint.0 }
     {
         self.manager.has_pending(endpoint)
     }
 
-    /// Whether the normal world would be told of an endpoint by FFA_NOTIFICATION_INFO_GET: whether its schedule receiver
-    /// interrupt is to be pending. On a machine of FF-A 1.1, which tells nobody, it is not.
+    /// Whether FFA_NOTIFICATION_INFO_GET would report an endpoint to the normal world. If so, the schedule receiver
+    /// interrupt of the normal world must be pending. It is false on a machine of FF-A 1.1, where this call reports
+    /// nothing.
     pub fn has_notices(&self) -> bool
         ensures { result ≡ has_notices self.now.state }
     {
         self.manager.has_notices()
     }
 
-    /// Does one operation of the runner. A refusal, which is FFA_ERROR or a fault, changes nothing.
+    /// Does one operation of the runner: a call, a load, a store or a fetch. A refusal (FFA_ERROR or a fault) changes
+    /// nothing.
     #[inline(always)]
     pub fn op(&mut self, op: &Op) -> Outcome
         ensures done { IsDone self.old op.now result self.new }
@@ -244,8 +250,8 @@ impl<M: PhysMem + Drop, T: Translations + Drop, S: Store> Machine<M, T, S> {
         outcome
     }
 
-    /// Does one operation of the runner, as `op` does, and fills in its outcome where it is stored.
-    // Inlined, because a call for each line of a trace would cost a tenth of an access.
+    /// Does one operation of the runner, as `op` does, and writes its outcome to `outcome`.
+    // It is inlined, because a call for each line of a trace would cost a tenth of an access.
     #[inline(always)]
     pub fn do_op(&mut self, op: &Op, outcome: &mut Outcome)
         ensures done { IsDone self.old op.now outcome.new self.new }
@@ -264,7 +270,8 @@ impl<M: PhysMem + Drop, T: Translations + Drop, S: Store> Machine<M, T, S> {
         }
     }
 
-    /// Does operations one after another, each of the endpoint that runs then, and fills in their outcomes.
+    /// Does operations one after another, and writes their outcomes to `filled`. The endpoint that runs at that time
+    /// does each operation.
     pub fn run(&mut self, ops: &[Op], filled: &mut [Outcome])
         requires { length ops.now ≡ length filled.old }
         ensures outcomes { filled.new ≡ outcomes self.old.state ops.now }
@@ -273,30 +280,35 @@ impl<M: PhysMem + Drop, T: Translations + Drop, S: Store> Machine<M, T, S> {
         ensures walks { AreWalks self.new }
         ensures sound { IsSoundState self.new.state }
 
-        // From one operation to the next the RAM and the cache change as `op` says, and nothing is done besides.
+        // Each operation changes the RAM and the cache as `op` says. Nothing else changes them.
         ensures chain { AreOperated self.old ops.now self.new }
         ensures unowned { KeepsUnowned self.old.state self.old.ram self.new.ram }
 
-        // What an endpoint sees, and its view afterwards, are the same from every state that it sees alike, with every list of
-        // operations that holds the same of it: they are its items, replayed on its view. What it sees is in the outcomes that
-        // were filled in.
+        // Take an endpoint of the machine. Take another steady state in which the endpoint has the same view, and
+        // another list with the same items for it. Then it sees the same in both runs, and its view is the same after
+        // both. Its items are its own operations and the events towards it. They are replayed on its view. The outcomes
+        // that `run` filled in show what it sees.
         ensures isolated { Isolated self.old.state ops.now }
         ensures replays { Replays self.old.state ops.now }
         ensures shown { (e : ℕ) → shown_to e self.old.state.runner filled.new ≡ seen e self.old.state ops.now }
 
-        // So too from every state in which it can read the same, with every list of operations that reveals the same to
-        // it and tells it the same readably.
+        // Take an endpoint. All that it sees of the run, and all that it can read after it, depends only on two things.
+        // They are what it can read at the start, and its readings of the run. The readings are its own operations,
+        // what these show it, and what it can read of events.
         ensures confidential { RunConfidential self.old.state ops.now }
 
-        // No own right is above the one before, no access above the own right, and the manager's pages stay its own.
+        // An own right is never above the own right before, an access is never above the own right, and the manager's
+        // pages stay its own.
         ensures never_grow { NeverGrow self.old.state self.new.state }
 
-        // A page that an endpoint has alone is what it was, where the endpoint didn't run and, if the page is its RX,
-        // got no message into it.
+        // Take a page that an endpoint owns, and that is in no open transaction. It stays as it is while the endpoint
+        // does not run. If the page is one of the endpoint's RX, it stays so while no message fills RX.
         ensures run_integrity { RunIntegrity self.old.state ops.now }
 
-        // Whatever the runner stores into a loan: after its next call, if that gives the loan up with zeros, the state is
-        // the same, and so is all that an endpoint sees and reads that doesn't hold the loan.
+        // Take loads and fetches of the runner, and its stores into a loan. Suppose that its next call relinquishes the
+        // loan with zeros, and that nothing refuses the call. Then the state after the call does not depend on these
+        // operations. For each other endpoint that does not hold the loan, what it sees and reads does not depend on
+        // them either.
         ensures forgotten_loans { ZeroedIsForgotten self.old.state }
     {
         // Proof step: what holds of every machine, before the operations and after them.
@@ -305,7 +317,7 @@ impl<M: PhysMem + Drop, T: Translations + Drop, S: Store> Machine<M, T, S> {
         self.holds();
     }
 
-    // The operations themselves, in turn.
+    // Does the operations in turn.
     fn operate_all(&mut self, ops: &[Op], filled: &mut [Outcome])
         requires { length ops.now ≡ length filled.old }
         ensures outcomes { filled.new ≡ outcomes self.old.state ops.now }

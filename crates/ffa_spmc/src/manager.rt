@@ -1,5 +1,5 @@
 // SPDX-License-Identifier: MIT OR Apache-2.0
-//! The partition manager: what it keeps, and what its calls and accesses do.
+//! The partition manager: the parts that it keeps, and the effects of its calls and accesses.
 ghost use Rattle.std.specs.Prelude.{true, false, ◌≡◌, None, Option, ◌<◌, ◌≤◌, length};
 ghost use Rattle.std.specs.Option.{option_or};
 ghost use Rattle.ffa_model.specs.declared.limits.TheConstants.{MOST_ENDPOINTS};
@@ -49,8 +49,8 @@ use ffa_tlb::Translations;
 pub(crate) use readings::holds_bytes;
 use std::marker::Model;
 
-/// The partition manager over any RAM. Contracts see its state, which is that of the small machine, and its RAM with
-/// every byte.
+/// The partition manager over any RAM. Contracts see its state, which is the small machine's, and its RAM with every
+/// byte.
 #[derive(Drop)]
 pub(crate) struct Manager<M: PhysMem + Drop, S: Store = Inline> {
     ram: M,
@@ -84,8 +84,9 @@ impl<M: PhysMem + Drop, S: Store> Model for Manager<M, S> {
 }
 
 impl<M: PhysMem + Drop, S: Store> Manager<M, S> {
-    // The manager of a manifest in its first state, in RAM of which all is zeros but what the manifest's regions hold, with this
-    // room: it builds the tables. It is not inlined where a machine boots, so that what it keeps is copied less often.
+    // Returns the manager of a manifest in its first state, in this storage, and builds the tables. The RAM is all
+    // zeros before, except the pages of the manifest's regions. It is not inlined where a machine boots, so that the
+    // manager's parts are copied less often.
     #[inline(never)]
     pub(crate) fn first(manifest: &Manifest, ram: M, storage: Storage<S>) -> Manager<M, S>
         requires ram { IsReadyFor manifest.now (M.ram ram) }
@@ -97,12 +98,12 @@ impl<M: PhysMem + Drop, S: Store> Manager<M, S> {
         let mut ram = ram;
         let kept = Kept::first(manifest, storage);
         build(&mut ram, &kept.layout);
-        // Proof step: what built tables give holds from here on, and the manager's invariant has it.
+        // Proof step: what built tables grant holds from here on, and the manager's invariant has it.
         built_tables();
         Manager { ram, kept }
     }
 
-    // The RAM, whose bytes are all that the machine keeps of tables and data.
+    // Returns the RAM. Its bytes are all that the machine keeps of tables and data.
     pub(crate) fn ram(&self) -> &M
         ensures ram { M.ram result.now ≡ self.now.ram }
         ensures past { M.past result.now ≡ self.now.past }
@@ -111,8 +112,8 @@ impl<M: PhysMem + Drop, S: Store> Manager<M, S> {
         &self.ram
     }
 
-    // The RAM with the bytes that it has in the end, where nothing is managed any more, and the room for what was kept, which is
-    // for as many pages.
+    // Ends the manager, and returns its RAM with all bytes and its storage. The storage has room for the same number of
+    // pages.
     pub(crate) fn into_parts(self) -> (M, Storage<S>)
         ensures ram { M.ram result.0 ≡ self.ram }
         ensures past { M.past result.0 ≡ self.past }
@@ -132,16 +133,16 @@ impl<M: PhysMem + Drop, S: Store> Manager<M, S> {
         (ram, Storage { pages, pool })
     }
 
-    // What holds of every manager.
+    // States what holds of every manager.
     #[inline(always)]
     pub(crate) fn holds(&self)
         ensures { IsManaged self.now }
     {
-        // Proof step: the invariant of all parts is at hand where one is read.
+        // Proof step: code that reads one part has the invariant of all parts.
         let _ = &self.kept;
     }
 
-    // The address of RAM's first page. RAM has no more pages than the largest.
+    // Returns the address of RAM's first page. RAM has at most `most_pages` pages.
     pub(crate) fn ram_base(&self) -> Address
         ensures base { result.0 ≡ self.now.state.ram_base }
         ensures few { length self.now.state.pages ≤ most_pages }
@@ -149,14 +150,14 @@ impl<M: PhysMem + Drop, S: Store> Manager<M, S> {
         self.kept.manifest.ram_base
     }
 
-    // The endpoint that runs.
+    // Returns the endpoint that runs.
     pub(crate) fn runner(&self) -> EndpointId
         ensures { result.0 ≡ self.now.state.runner }
     {
         self.kept.chain.runner()
     }
 
-    // The number of endpoints, from 1 to 8.
+    // Returns the number of endpoints, from 1 to 8.
     pub(crate) fn endpoints(&self) -> usize
         ensures number { result ≡ length self.now.state.parties }
         ensures some { 1 ≤ result }
@@ -165,14 +166,14 @@ impl<M: PhysMem + Drop, S: Store> Manager<M, S> {
         self.kept.manifest.endpoints.len()
     }
 
-    // The form in which the runner writes and reads descriptors.
+    // Returns the form in which the runner writes and reads descriptors.
     fn version(&self) -> Version
         ensures { result ≡ version_of self.now.state self.now.state.runner }
     {
         self.kept.versions.of_endpoint(self.kept.chain.runner())
     }
 
-    // The owner of a page of the RAM; 0x8000 is the manager.
+    // Returns the owner of a page of the RAM. 0x8000 is the manager.
     pub(crate) fn owner_of(&self, page: PageNo) -> EndpointId
         requires { page.0 < length self.now.state.pages }
         ensures { result.0 ≡ owner_of self.now.state page.0 }
@@ -180,7 +181,8 @@ impl<M: PhysMem + Drop, S: Store> Manager<M, S> {
         self.kept.pages.owner_of(page)
     }
 
-    // The right of an endpoint to a page: nothing outside the RAM, or for an endpoint that isn't there.
+    // Returns the right of an endpoint to a page. Returns `None` if the endpoint has no access, the page is outside the
+    // RAM, or the machine has no such endpoint.
     pub(crate) fn access(&self, endpoint: EndpointId, page: PageNo) -> Option<Rights>
         ensures { result ≡ access self.now.state endpoint.0 page.0 }
     {
@@ -192,7 +194,7 @@ impl<M: PhysMem + Drop, S: Store> Manager<M, S> {
         }
     }
 
-    // FFA_FEATURES of the runner.
+    // Serves FFA_FEATURES of the runner.
     fn features(&self, function: u32) -> Reply
         ensures { let runner = self.now.state.runner in
             result ≡ features_reply self.now.state.ffa runner (version_of self.now.state runner) function }
@@ -201,8 +203,8 @@ impl<M: PhysMem + Drop, S: Store> Manager<M, S> {
         ffa_setup::features(function, self.kept.manifest.ffa, runner, self.version())
     }
 
-    // A call of the runner, in its registers, after which the cache holds nothing that the call has made untrue, and what it
-    // changed is told.
+    // Serves a call of the runner, which is in these registers. After the call, the cache holds nothing that the call
+    // made stale, and the news report the access that the call changed.
     #[inline(always)]
     pub(crate) fn call<T: Translations>(
         &mut self,
@@ -236,9 +238,9 @@ impl<M: PhysMem + Drop, S: Store> Manager<M, S> {
         }
     }
 
-    // The reply to a call of the runner. Each arm answers for itself.
-    // Each arm first checks, which changes nothing, and then has its effect. If an effect made the checks, each test
-    // would exist twice, or the code that says why a call is refused would not be the code that refuses it.
+    // Returns the reply to a call of the runner. The function of each arm promises what its own call does.
+    // Each arm first makes its checks, which change nothing, and then has its effect. If the effect made the checks,
+    // either each test would exist twice, or the code that explains a refusal would not be the code that refuses.
     #[inline(always)]
     fn reply<T: Translations>(&mut self, call: &Call, cache: &mut T, news: &mut News) -> Reply
         requires { passes_no_error call.now ≡ true }

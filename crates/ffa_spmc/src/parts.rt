@@ -11,25 +11,25 @@ use ffa_schedule::Chain;
 use ffa_setup::Versions;
 use ffa_stage2::Layout;
 
-/// The parts of a machine, for who tells of it what the machine itself doesn't. What they are together `Machine::parts` says.
+/// The parts of a machine, for code that explains what the machine itself does not report. `Machine::parts` lends them.
 #[derive(Drop)]
 pub struct Parts<'a, M: PhysMem + Drop, S: Store> {
-    /// The RAM, whose bytes are all that the machine keeps of tables and data.
+    /// The RAM. Its bytes are all that the machine keeps of tables and data.
     pub ram: &'a M,
     /// The manifest of the machine.
     pub manifest: &'a Manifest,
-    /// Where the tables stand, and how many.
+    /// The places and the number of the tables.
     pub layout: &'a Layout,
-    /// Who has bitmaps of notifications, which bits are bound, and which are pending.
+    /// The notifications: which endpoints have bitmaps, which bits are bound, and which bits are pending.
     pub bitmaps: &'a Bitmaps,
-    /// Who owns each page.
+    /// The owner of each page.
     pub pages: &'a PageTable<S::Pages>,
     /// The open memory transactions.
     pub pool: &'a Pool<S::Open>,
-    /// Each endpoint's buffers.
+    /// The buffers of each endpoint.
     pub buffers: &'a Buffers,
-    /// Who runs, and for whom.
+    /// The run states: which endpoint runs, and for which endpoint it works.
     pub chain: &'a Chain,
-    /// In which form each endpoint writes and reads.
+    /// The form in which each endpoint writes and reads.
     pub versions: &'a Versions,
 }

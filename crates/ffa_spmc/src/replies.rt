@@ -7,10 +7,10 @@ ghost use Rattle.ffa_spmc.specs.Replies.{done_or_error, message_or_error, reply_
 use ffa_memshare::Value;
 use ffa_model::{DirectMessage, ErrorCode, Handle, Reply};
 
-/// The reply to a call that answers no more than that it is done.
+/// The reply to a call that only reports its success.
 pub(crate) const DONE: Reply = Reply::Success([0; 6]);
 
-// The reply to a call that only can be done or refused.
+// Returns the reply to a call that can only succeed or be refused.
 pub(crate) fn done_or_error(answer: Result<(), ErrorCode>) -> Reply
     ensures { result ≡ done_or_error answer }
 {
@@ -20,7 +20,7 @@ pub(crate) fn done_or_error(answer: Result<(), ErrorCode>) -> Reply
     }
 }
 
-// The reply of a call that was done, or the code for which it was refused.
+// Returns the reply of a call that succeeded, or the error code of a call that was refused.
 pub(crate) fn reply_or_error(answer: Result<Reply, ErrorCode>) -> Reply
     ensures { result ≡ reply_or_error answer }
 {
@@ -30,7 +30,7 @@ pub(crate) fn reply_or_error(answer: Result<Reply, ErrorCode>) -> Reply
     }
 }
 
-// The reply to a direct message that was passed on, which is the message itself, or the code for which it was refused.
+// Returns the reply to a direct message: the message itself if it was passed on, or the error code if it was refused.
 #[inline(always)]
 pub(crate) fn message_or_error(message: &DirectMessage, answer: Result<(), ErrorCode>) -> Reply
     ensures { result ≡ message_or_error message.now answer }
@@ -41,7 +41,7 @@ pub(crate) fn message_or_error(message: &DirectMessage, answer: Result<(), Error
     }
 }
 
-// The reply to a call on memory that returns a value.
+// Returns the reply to a call on memory that succeeded with this value.
 #[inline(always)]
 pub(crate) fn value_reply(value: Value) -> Reply
     ensures { result ≡ value_reply value }
@@ -53,7 +53,7 @@ pub(crate) fn value_reply(value: Value) -> Reply
     }
 }
 
-// The reply to a send that was done.
+// Returns the reply to a send that succeeded, with this handle.
 pub(crate) fn handle_reply(handle: u64) -> Reply
     ensures { result ≡ handle_reply handle }
 {

@@ -3,20 +3,20 @@
 
 use ffa_model::PageNo;
 
-/// Pages from one on, so many.
+/// A number of pages in a row.
 #[derive(Clone, Copy)]
 pub struct Run {
     /// The first page.
     pub first: PageNo,
-    /// How many pages they are.
+    /// The number of pages.
     pub count: u32,
 }
 
 /// The first bytes of pages in a row.
 #[derive(Clone, Copy)]
 pub(crate) struct Front {
-    /// The pages that hold them.
+    /// The pages that hold these bytes.
     pub(crate) pages: Run,
-    /// How many bytes they are, if the pages have as many.
+    /// The number of bytes, if the pages have that number.
     pub(crate) bytes: usize,
 }

@@ -1,5 +1,5 @@
 // SPDX-License-Identifier: MIT OR Apache-2.0
-//! Room for what a machine keeps.
+//! Storage for the data of a machine that depends on its size.
 ghost use Rattle.std.specs.Prelude.{◌≡◌, ◌*◌, ◌<◌, ◌≤◌, length, IfOk, OnOk, OnErr};
 ghost use Rattle.ffa_model.specs.declared.limits.TheConstants.{MOST_PAGES};
 ghost use Rattle.ffa_spmc.specs.Storages.{IsRoomFor};
@@ -12,15 +12,15 @@ use std::alloc::{AllocError, Allocator, Global};
 use std::marker::PhantomData;
 use std::mem::size_of;
 
-/// Where machines keep what is large of what they keep.
+/// A kind of storage for the large parts of a machine.
 pub trait Store {
-    /// The owners of pages.
+    /// The storage of the owners of pages.
     type Pages: Room<KeptPage> + Drop;
-    /// The open transactions.
+    /// The storage of the open transactions.
     type Open: Room<OpenSlot> + Drop;
 }
 
-/// In the machine itself, which is as large as the largest RAM needs.
+/// Storage in the machine itself, which is as large as the largest RAM needs.
 #[derive(Drop)]
 pub struct Inline;
 
@@ -30,8 +30,8 @@ impl Store for Inline {
     type Open = ArrayVec<OpenSlot, MOST_SLOTS>;
 }
 
-/// In memory of an allocator, for as many pages as the machine's RAM needs, and for as many open transactions as there may be,
-/// whichever endpoints the machine has.
+/// Storage in an allocator's memory. It has room for the pages of the machine's RAM. Its room for open transactions is
+/// enough for any number of endpoints.
 #[derive(Drop)]
 pub struct Given<A: Allocator + Drop> {
     marker: PhantomData<A>,
@@ -43,18 +43,18 @@ impl<A: Allocator + Drop> Store for Given<A> {
     type Open = Slots<A>;
 }
 
-// A slot has eight bytes for each range, and at most 256 beside them.
+// A slot has eight bytes for each range, and at most 256 other bytes.
 const _: () = prove!(
     size_of::<PageTable>() + size_of::<Pool>()
         <= size_of::<KeptPage>() * MOST_PAGES + (8 * MOST_RANGES + 256) * MOST_SLOTS
 );
 
-// A machine with given room is small, whatever its RAM has.
+// A machine whose storage is in an allocator's memory is small, whatever the size of its RAM.
 const _: () = prove!(
     size_of::<PageTable<Vec<KeptPage>>>() + size_of::<Pool<Slots<Global>>>() <= 128
 );
 
-/// Room for one machine.
+/// Storage for one machine.
 #[derive(Drop)]
 pub struct Storage<S: Store = Inline> {
     /// The owners of pages.
@@ -64,7 +64,7 @@ pub struct Storage<S: Store = Inline> {
 }
 
 impl Storage {
-    /// Room for the machine of a manifest, in the machine itself. It takes no memory.
+    /// Returns storage for the machine of a manifest, in the machine itself. It allocates no memory.
     #[inline(always)]
     pub fn inline(manifest: &Manifest) -> Storage
         ensures { IsRoomFor manifest.now result }
@@ -78,7 +78,11 @@ impl Storage {
 }
 
 impl<A: Allocator + Copy + Drop> Storage<Given<A>> {
-    /// Room for the machine of a manifest, in memory of an allocator.
+    /// Returns storage for the machine of a manifest, in an allocator's memory.
+    ///
+    /// # Errors
+    ///
+    /// `AllocError`: the allocator has not enough memory.
     pub fn allocate_for(alloc: A, manifest: &Manifest) -> Result<Storage<Given<A>>, AllocError>
         ensures { IfOk result (IsRoomFor manifest.now) }
     {
@@ -87,7 +91,12 @@ impl<A: Allocator + Copy + Drop> Storage<Given<A>> {
         Ok(storage)
     }
 
-    /// Room for machines of so many pages of RAM, whichever endpoints they have, in memory of an allocator.
+    /// Returns storage for a machine with this number of pages of RAM, whichever endpoints it has, in an allocator's
+    /// memory.
+    ///
+    /// # Errors
+    ///
+    /// `AllocError`: the allocator has not enough memory.
     pub fn ready(alloc: A, pages: usize) -> Result<Storage<Given<A>>, AllocError>
         requires { pages ≤ MOST_PAGES }
         ensures { IfOk result (λ storage. length storage.pages ≡ pages) }
@@ -98,8 +107,13 @@ impl<A: Allocator + Copy + Drop> Storage<Given<A>> {
         })
     }
 
-    /// Makes it room for the machine of a manifest. It takes memory only where it is room for fewer pages, and where that is
-    /// refused it stays as it is.
+    /// Makes this the storage for the machine of a manifest. It allocates memory only if the storage has room for fewer
+    /// pages.
+    ///
+    /// # Errors
+    ///
+    /// `AllocError`: the allocator has not enough memory. The storage has fewer pages than the manifest's RAM, and
+    /// stays as it was.
     pub fn begin(&mut self, manifest: &Manifest) -> Result<(), AllocError>
         ensures fits { OnOk result (IsRoomFor manifest.now self.new) }
         ensures refused { OnErr result (self.new ≡ self.old) }

@@ -7,7 +7,7 @@ use std::alloc::Global;
 use std::process::Abort;
 use std::test::Fail;
 
-// Something in each upper half, and each register's number in its low half.
+// Registers with something in each upper half, and with the register's number in its low half.
 const NUMBERED: [u64; 8] = [
     0xFF_0000_0000,
     0xA1_0000_0001,
@@ -19,15 +19,16 @@ const NUMBERED: [u64; 8] = [
     0xA7_0000_0007,
 ];
 
-// These registers, of which the low half of x0 is the identifier.
+// Returns these registers with a function identifier in the low half of x0.
 fn registers(function: u32) -> [u64; 8] {
     let mut registers = NUMBERED;
     registers[0] |= u64::from(function);
     registers
 }
 
-// Identifiers, and the calls that registers with them are, with their numbers and 0 behind these: register n, where it is
-// passed whole, is 160 + n times 2^32, plus n. A handle and a bitmap have two registers, the low half first.
+// Rows of a function identifier, and the call in registers with this identifier: its name and its numbers, and then
+// zeros. A register n that the call takes whole is 160 + n times 2^32, plus n. A handle and a bitmap are in two
+// registers, the low half first.
 const SETUP: &str = "\
 84000063 Version [1, 0, 0, 0, 0, 0, 0, 0]
 84000064 Features [1, 0, 0, 0, 0, 0, 0, 0]
@@ -69,7 +70,8 @@ const NOTIFICATIONS: &str = "\
 84000081 NotificationSet [1, 2, 17179869187, 0, 0, 0, 0, 0]
 84000082 NotificationGet [1, 2, 0, 0, 0, 0, 0, 0]";
 
-// Whom a call names in w1 = 8001 0002: a sender and a receiver, or an endpoint and its execution context.
+// Rows of calls that name two things in w1 = 8001 0002: a sender and a receiver, or an endpoint and its execution
+// context.
 const ENDS: &str = "\
 8400006F DirectRequest [2214592623, 2147549186, 2, 3, 4, 5, 6, 7]
 C4000070 DirectResponse [3288334448, 2147549186, 2, 700079669251, 704374636548, 708669603845, 712964571142, 717259538439]
@@ -92,7 +94,7 @@ fn of_transfer(transfer: Transfer) -> [u64; 8] {
     )
 }
 
-// The word that names two endpoints.
+// Returns the word that names two endpoints.
 fn of_ends(high: EndpointId, low: EndpointId) -> u64 {
     u64::from(high.0) << 16 | u64::from(low.0)
 }
@@ -112,7 +114,8 @@ fn of_message(message: &DirectMessage) -> [u64; 8] {
     ]
 }
 
-// A call's name and its numbers. Calls stand in four functions, since one for all takes the proof longer than these.
+// Returns a call's name and its numbers. Calls are in four functions, because one function for all takes longer to
+// prove.
 fn said(call: Call) -> (&'static str, [u64; 8]) {
     match call {
         Call::Version { version } => ("Version", numbers(version.into(), 0, 0, 0)),
@@ -192,7 +195,7 @@ fn said_of_notifications(call: Call) -> (&'static str, [u64; 8]) {
     }
 }
 
-// Rows of identifiers, with this in x1.
+// Asserts the calls of these rows, with this value in x1.
 fn check_calls(rt: &impl Abort, alloc: Global, rows: &str, x1: u64) -> Result<(), Fail> {
     for row in rows.lines() {
         let (function, wanted) = row.split_once(' ').ok_or("no call")?;
@@ -213,14 +216,14 @@ fn calls_by_their_identifiers(rt: HostRuntime) -> Result<(), Fail> {
     check_calls(&rt, rt.alloc(), ENDS, 0x8001_0002)
 }
 
-// No result of the machine's has something in w7. tests/rows has all other answers.
+// No result of the machine has something in w7. The rows of tests/rows show all other results.
 #[test]
 fn results_in_the_last_registers(rt: HostRuntime) {
     let results = Reply::Success([0, 0, 0, 0, 1, 2]);
     same(&rt, encode(&results), [0x8400_0061, 0, 0, 0, 0, 0, 1, 2]);
 }
 
-// w0 and w2, and the names of the call and of the error: a dash where there is none.
+// Rows of w0 and w2, and the names of the call and of the error. A dash is in the row if there is no name.
 const NAMES: &str = "\
 84000060 FFFFFFFE FFA_ERROR INVALID_PARAMETERS
 84000060 FFFFFFFF FFA_ERROR NOT_SUPPORTED

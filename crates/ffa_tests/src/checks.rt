@@ -1,14 +1,15 @@
 // SPDX-License-Identifier: MIT OR Apache-2.0
-//! Comparisons. Each is a call, since the proof of a test that compares in its own body takes some seconds longer for each.
+//! Comparisons for tests. Each is a call, because each comparison in the body of a test makes the test's proof some
+//! seconds longer.
 use std::fmt::{Debug, Display};
 use std::process::Abort;
 
-// Two values are the same.
+// Asserts that two values are the same.
 pub(crate) fn same<T: PartialEq + Debug + Drop>(rt: &impl Abort, found: T, wanted: T) {
     assert_eq!(rt; found, wanted);
 }
 
-// Two values are the same in this case.
+// Asserts that two values are the same in this case.
 pub(crate) fn same_at<T: PartialEq + Debug + Drop>(
     rt: &impl Abort,
     found: T,

@@ -1,5 +1,5 @@
 // SPDX-License-Identifier: MIT OR Apache-2.0
-//! Which kind of machine a command line asks for: no text of a play shows it.
+//! The kind of machine that a command line selects. No text of a play shows it.
 use crate::checks::same_at;
 use play_arguments::{MachineOptions, Request, request};
 use std::alloc::Global;
@@ -15,7 +15,7 @@ fn kind(machine: MachineOptions) -> &'static str {
     }
 }
 
-// The kind of machine on which words ask to play.
+// Returns the kind of machine on which these words request to play.
 fn asked<'a>(alloc: Global, words: &'a [&'a str]) -> &'static str {
     match request(alloc, words) {
         Ok(Request::Play(options)) => kind(options.machine),
@@ -33,7 +33,8 @@ fn check_line(rt: &impl Abort, alloc: Global, row: &str) -> Result<(), Fail> {
     Ok(())
 }
 
-// Each row is a command line, an arrow and the kind of machine. What else words ask for stands in tests/tables.d.
+// Rows of a command line, an arrow and the kind of machine. The tables of tests/tables.d have all other effects of
+// words.
 const ROWS: &str = "\
 ffaplay run row.toml first.trace => one piece
 ffaplay run row.toml --frames first.trace => frames

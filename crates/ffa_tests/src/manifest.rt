@@ -1,5 +1,6 @@
 // SPDX-License-Identifier: MIT OR Apache-2.0
-//! Endpoints of each version, which texts and parts give to machines, and names of causes that the program prints of no text.
+//! Endpoints of each version, which texts and parts declare for machines. Also names of causes that the program prints
+//! for no text.
 use crate::checks::{same, same_at};
 use arrayvec::ArrayVec;
 use ffa_manifest::{ManifestError, PartsPlace, explain, of_parts, place_of_parts, read, read_for};
@@ -8,7 +9,7 @@ use fixtures::{FIRST, ROW_TEXT, row_machine};
 use std::alloc::{AllocError, Global};
 use std::test::Fail;
 
-// Want of memory has other words, and no text says where tables stand.
+// If memory runs out, the program prints other words. No text of a manifest has the place of the tables.
 #[test]
 fn causes_by_name(rt: HostRuntime) -> Result<(), Fail> {
     let (memory, tables) = (ManifestError::NoMemory, ManifestError::TablesOutside);
@@ -17,21 +18,21 @@ fn causes_by_name(rt: HostRuntime) -> Result<(), Fail> {
     Ok(())
 }
 
-// The text of `row_machine`, in which this is the version of the first partition.
+// Returns the text of `row_machine` with this version of the first partition.
 fn text_of(alloc: Global, version: &str) -> Result<String, AllocError> {
     let found = "version = \"1.1\"\nuuid = \"0";
     let wanted = format!(in alloc; "version = \"{version}\"\nuuid = \"0")?;
     ROW_TEXT.replace(alloc, found, wanted.as_str())
 }
 
-// What came of a manifest: the versions of the machine and of its first partition, or the cause.
+// Returns the versions of a manifest's machine and of its first partition, or the cause of its refusal.
 fn came_of(read: Result<Manifest, ManifestError>) -> Result<(Ffa, Option<Version>), ManifestError> {
     let manifest = read?;
     let partition = manifest.endpoints.as_slice().get(1);
     Ok((manifest.ffa, partition.map(|endpoint| endpoint.version)))
 }
 
-// A machine of FF-A 1.1 knows no partition of FF-A 1.2, and one of FF-A 1.2 knows those of each version.
+// A machine of FF-A 1.1 accepts no partition of FF-A 1.2. A machine of FF-A 1.2 accepts partitions of each version.
 #[test]
 fn versions_of_texts(rt: HostRuntime) -> Result<(), Fail> {
     let alloc = rt.alloc();
@@ -61,7 +62,8 @@ fn versions_of_texts(rt: HostRuntime) -> Result<(), Fail> {
     Ok(())
 }
 
-// Why a text is refused for a machine of this version of FF-A, and where, in words.
+// Returns in words why a text is refused for a machine of this version of FF-A, and where. Returns "accepted" if it is
+// not refused.
 fn words_of(alloc: Global, version: &str, ffa: Ffa) -> Result<String, AllocError> {
     let text = text_of(alloc, version)?;
     match explain(alloc, text.as_str().as_bytes(), ffa)? {
@@ -95,7 +97,7 @@ fn words_of_versions(rt: HostRuntime) -> Result<(), Fail> {
     Ok(())
 }
 
-// The endpoints of `row_machine`, of which the first partition has this version.
+// Returns the endpoints of `row_machine` with this version of the first partition.
 fn parts_of(version: Version) -> ArrayVec<Endpoint, MOST_ENDPOINTS> {
     let mut endpoints = row_machine().endpoints;
     if let Some(endpoint) = endpoints.get_mut(1) {
@@ -104,7 +106,7 @@ fn parts_of(version: Version) -> ArrayVec<Endpoint, MOST_ENDPOINTS> {
     endpoints
 }
 
-// Parts are refused for the version as a text is, before the partition's regions are looked at.
+// Parts are refused for the version as a text is, before the check of the partition's regions.
 #[test]
 fn versions_of_parts(rt: HostRuntime) {
     for (version, ffa, is_refused) in [

@@ -17,7 +17,7 @@ const ALL: Rights = Rights {
     exec: true,
 };
 
-// What is kept of a page: its owner, the own right, and the slot of the transaction that names it.
+// Returns the data on a page: its owner, the own right, and the slot of the transaction that names it.
 fn entry(table: &PageTable, page: u32) -> Option<(EndpointId, Option<Rights>, Option<u8>)> {
     if page >= table.pages() {
         return None;

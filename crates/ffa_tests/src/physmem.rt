@@ -1,5 +1,5 @@
 // SPDX-License-Identifier: MIT OR Apache-2.0
-//! RAM through its trait's bound, and frames over a small heap.
+//! RAM through the bound of its trait, and frames over a small heap.
 use crate::checks::{holds, same};
 use ffa_model::{Address, PageNo};
 use ffa_physmem::{FlatRam, FrameRam, NoMemory, PhysMem};
@@ -9,7 +9,7 @@ use std::alloc::Global;
 use std::process::Abort;
 use std::test::Fail;
 
-// The byte at a place of a page.
+// Returns the byte at a place of a page.
 fn byte<M: PhysMem>(memory: &M, page: u32, place: usize) -> Option<u8> {
     if page < memory.pages() {
         memory.page(PageNo(page)).get(place).copied()
@@ -18,7 +18,7 @@ fn byte<M: PhysMem>(memory: &M, page: u32, place: usize) -> Option<u8> {
     }
 }
 
-// Writes words, reads them back, clears a page and copies the front of one.
+// Writes words, reads them again, clears a page and copies the first bytes of a page. Asserts the results.
 fn use_pages<M: PhysMem>(memory: &mut M, rt: &impl Abort) {
     same(
         rt,
@@ -65,7 +65,8 @@ fn are_zeros<M: PhysMem>(rt: &impl Abort, ram: &M) {
     }
 }
 
-// RAM of three pages, all zeros, where there is room for it, or no memory; and nothing is kept of RAM that is refused.
+// Asserts that RAM of three pages is all zeros, if the heap has room for it. Otherwise the result is `NoMemory`. No
+// memory stays in use after refused RAM.
 fn zeros_or_no_memory<M: PhysMem + Drop>(
     rt: &impl Abort,
     heap: &LocalHeap,
@@ -96,7 +97,8 @@ fn frame_ram_in(rt: &impl Abort, heap: &LocalHeap, room: usize) {
     zeros_or_no_memory(rt, heap, frames);
 }
 
-// Each allocation of RAM is refused in turn: its one piece, and its list of frames and each frame.
+// Each allocation of RAM is refused in turn. Flat RAM has one allocation. RAM of frames has its list of frames, and
+// each frame.
 #[test]
 fn ram_is_zeros_or_refused(rt: HostRuntime) -> Result<(), Fail> {
     for room in [16, 64, 4096 + 64, 8192 + 64, 12288, 12288 + 48, 12288 + 64] {

@@ -1,5 +1,5 @@
 // SPDX-License-Identifier: MIT OR Apache-2.0
-//! RX that is filled again before its release, which no call does: the bytes after a shorter filling stay.
+//! RX that is filled again before its release, which no call does. The bytes after a shorter filling stay.
 use crate::checks::same;
 use ffa_model::{Address, ErrorCode};
 use ffa_pages::PageTable;

@@ -1,5 +1,6 @@
 // SPDX-License-Identifier: MIT OR Apache-2.0
-//! Run states that no call shows: that the normal world is blocked while another runs, and that who waits has no work.
+//! Run states that no call shows. The normal world is blocked while a partition runs, and a partition that waits has no
+//! work.
 use crate::checks::{holds, same};
 use ffa_model::{EndpointId, Status, Work};
 use ffa_schedule::Chain;

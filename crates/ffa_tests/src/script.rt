@@ -1,5 +1,5 @@
 // SPDX-License-Identifier: MIT OR Apache-2.0
-//! Lines of traces that are written, as they stand in a trace.
+//! Lines of traces that the program writes, as they are in a trace.
 use crate::checks::same;
 use arrayvec::ArrayVec;
 use ffa_model::{Address, Data, EndpointId, Kind, Op, Range, Receiver, SendDesc, Size, Version};

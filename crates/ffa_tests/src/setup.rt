@@ -1,11 +1,11 @@
 // SPDX-License-Identifier: MIT OR Apache-2.0
-//! Partition information that no call asks for.
+//! Partition information that no call requests.
 use crate::checks::{holds, same};
 use ffa_model::Version;
 use ffa_setup::{count, info_bytes, is_recognized};
 use fixtures::row_machine;
 
-// No partition has this UUID, of which a call is refused.
+// No partition has this UUID, so a call with it is refused.
 #[test]
 fn information_on_none(rt: HostRuntime) {
     let uuid = [0, 0, 0, 1];

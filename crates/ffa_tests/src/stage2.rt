@@ -1,5 +1,5 @@
 // SPDX-License-Identifier: MIT OR Apache-2.0
-//! Pages of words that rise, a table page that is mapped, and which pages are non-secure.
+//! Pages of words that rise, a table page that is mapped, and the non-secure pages of a machine.
 use crate::checks::{holds, same, same_at};
 use byteorder::{ByteOrder, LittleEndian};
 use ffa_model::{Data, Ffa, PageNo, Rights};
@@ -7,7 +7,7 @@ use ffa_physmem::{FlatRam, NoMemory};
 use ffa_stage2::{Layout, build, is_uniform, set_page};
 use fixtures::{row_machine, word};
 
-// A page whose words rise by 4096 from this one, where sums wrap.
+// Returns a page whose words rise by 4096 from this word on, with sums that wrap.
 fn rising(first: u64) -> [u8; 4096] {
     let mut page = [0; 4096];
     for place in 0..512 {
@@ -57,7 +57,8 @@ fn set_page_writes_descriptor(rt: HostRuntime) -> Result<(), NoMemory> {
     Ok(())
 }
 
-// Where worlds are told apart, the pages of the normal world's region are non-secure, from the 16th to the 31st.
+// On a machine of FF-A 1.2 only the pages of the normal world's region are non-secure. These are pages 16 to 31,
+// counted from 0.
 #[test]
 fn non_secure_pages(rt: HostRuntime) {
     let one = Layout::of(&row_machine());

@@ -9,7 +9,7 @@ use std::process::Abort;
 
 const ENDPOINT: EndpointId = EndpointId(0x8001);
 
-// Picks one slot each time.
+// A policy that picks the same slot each time.
 #[derive(Drop)]
 struct Always(usize);
 
@@ -23,7 +23,7 @@ impl Replacement for Always {
     }
 }
 
-// A leaf that leads to a page of RAM at 0x40000000.
+// Returns a leaf that leads to a page of RAM at 0x40000000.
 fn leaf_of(page: u32) -> Leaf {
     Leaf {
         phys: 0x4000_0000 + 4096 * u64::from(page),
@@ -33,7 +33,7 @@ fn leaf_of(page: u32) -> Leaf {
     }
 }
 
-// Fills a cache of so many slots and one page more, and sees that the first page alone is lost.
+// Fills a cache with this number of slots with one page more. Asserts that it loses only the first page.
 fn loses_the_oldest<T: Translations>(rt: &impl Abort, cache: &mut T, slots: u32)
     requires { slots < 100 }
 {
@@ -82,7 +82,7 @@ fn any_number_picks_a_slot(rt: HostRuntime) {
     holds(&rt, cache.lookup(EndpointId(0), PageNo(5)).is_none());
 }
 
-// A page that is filled again has its last leaf, whichever slot it takes.
+// A page that is filled again has its last leaf, whichever slot the leaf takes.
 #[test]
 fn the_last_leaf_is_held(rt: HostRuntime) {
     let mut cache = Tlb::<InTurn, 2>::new(InTurn::default());

@@ -1,5 +1,5 @@
 // SPDX-License-Identifier: MIT OR Apache-2.0
-//! The walk over tables that a test wrote.
+//! Walks of tables that a test wrote.
 use crate::checks::{same, same_at};
 use ffa_model::{Address, Size};
 use ffa_physmem::{FlatRam, FrameRam, PhysMem};
@@ -13,13 +13,13 @@ const BASE: u32 = 0x4000_0000;
 
 const ADDRESS: u64 = 0x4000_1234;
 
-// This word stands at index 1 of the level 1 table at the base, and bytes round the address.
+// Writes this word at index 1 of the level 1 table at the base, and bytes around the address.
 fn put<M: PhysMem>(memory: &mut M, word: u64) {
     set_word(memory, 0, 1, word);
     set_word(memory, 1, 0x46, 0x0807_065a_0403_0201);
 }
 
-// What the walk of the address answers, and the load of its byte.
+// Returns the results of the address's walk and of a load of its byte, as a text.
 fn walked<M: PhysMem>(alloc: Global, memory: &M) -> Result<String, AllocError> {
     if !is_in_ram(memory, u64::from(BASE)) {
         return format!(in alloc; "no table");
@@ -42,7 +42,7 @@ fn walks<M: PhysMem>(
     Ok(())
 }
 
-// The same in one piece of RAM, and in RAM of frames.
+// Asserts the walk of a row in one piece of RAM, and in RAM of frames.
 fn check_walk(rt: &impl Abort, alloc: Global, row: &str) -> Result<(), Fail> {
     let (word, wanted) = row.split_once(' ').ok_or("no word")?;
     let word = u64::from_str_radix(word, 16)?;
@@ -52,7 +52,7 @@ fn check_walk(rt: &impl Abort, alloc: Global, row: &str) -> Result<(), Fail> {
     walks(rt, alloc, &mut frames, word, wanted)
 }
 
-// A word, what the walk answers, and what the load does.
+// Rows of a word, the result of the walk, and the result of the load.
 const WALKS: &str = "\
 00000000400007FD Ok(Leaf { phys: 1073746484, read: true, write: true, exec: true }) Ok(90)
 00000000400003FD Err(AccessFlag) Err(AccessFlag)
@@ -68,7 +68,8 @@ fn walks_any_word(rt: HostRuntime) -> Result<(), Fail> {
     Ok(())
 }
 
-// What a fetch at the address answers, a store of two bytes there, and then a load of the eight bytes round it.
+// Returns the results of a fetch at the address, of a store of two bytes there, and then of a load of the eight bytes
+// around it.
 fn accessed(alloc: Global, memory: &mut FlatRam, value: u64) -> Result<String, AllocError> {
     if !is_in_ram(memory, u64::from(BASE)) {
         return format!(in alloc; "no table");

@@ -4,7 +4,7 @@ use ffa_model::EndpointId;
 use play_transcript::{Attempt, Change, Deed, GenerateError, TraceEntry, Turns, write_turns};
 use std::test::Fail;
 
-// A turn of three entries, again and again.
+// A source of turns that repeats a turn of three entries.
 #[derive(Drop)]
 struct SameTurn {
     entries: [TraceEntry; 3],

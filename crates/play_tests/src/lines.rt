@@ -1,6 +1,6 @@
 // SPDX-License-Identifier: MIT OR Apache-2.0
-//! Machines that go on behind bad lines, differences and sessions, and the lines of faults that no play has. Tables say what
-//! is printed of bad lines, differences and sessions.
+//! Machines that go on after bad lines, differences and sessions, and the lines of faults that no play has. Tables of
+//! tests have the text that the program prints for bad lines, differences and sessions.
 use crate::checks::{holds, same};
 use crate::machines::{FlatPlayer, booted};
 use ffa_model::FaultKind;
@@ -27,7 +27,7 @@ fn player(alloc: Global) -> Result<FlatPlayer, Fail> {
     Ok(Player::new(Explained(booted(alloc, &built_in())?)))
 }
 
-// What a play leaves: what it has printed, and how it ends.
+// The result of a play: the text that it printed, and how it ended.
 #[derive(Drop)]
 struct Left {
     out: Vec<u8>,
@@ -44,14 +44,14 @@ fn played_on(player: &mut FlatPlayer, alloc: Global, trace: &str) -> Left {
     Left { out, ended }
 }
 
-// The normal world runs still, and its calls are served.
+// Asserts that the normal world still runs, and that the machine serves its calls.
 fn goes_on(rt: &impl Abort, alloc: Global, player: &mut FlatPlayer) {
     let left = played_on(player, alloc, TRACE);
     same(rt, left.ended, Ok(()));
     same(rt, left.out.as_slice(), TEXT.as_bytes());
 }
 
-// A play of a trace stops at this line, which is bad, and the machine goes on behind it.
+// Asserts that a play of a trace stops at this bad line, and that the machine goes on after it.
 fn stops_at(rt: &impl Abort, alloc: Global, trace: &str, number: u64) -> Result<(), Fail> {
     let mut player = player(alloc)?;
     let left = played_on(&mut player, alloc, trace);
@@ -66,7 +66,7 @@ fn goes_on_behind_a_bad_line(rt: HostRuntime) -> Result<(), Fail> {
     stops_at(&rt, rt.alloc(), "\nfetch 0\nshow", 3)
 }
 
-// The lines of faults in which no operation of a machine ends.
+// The player has a line also for the faults with which no operation of a machine ends.
 #[test]
 fn tells_each_fault_by_its_name(rt: HostRuntime) {
     let line = text::fault_line(FaultKind::AccessFlag);
@@ -75,7 +75,7 @@ fn tells_each_fault_by_its_name(rt: HostRuntime) {
     same(&rt, line, b"fault outside-ram\n".as_slice());
 }
 
-// Where a play of the trace first differs from a text that is empty.
+// Returns the place where a play of the trace first differs from an empty text.
 fn compared_on(player: &mut FlatPlayer, alloc: Global) -> Result<Option<Mismatch>, CompareError> {
     let (mut left, mut wanted) = (TRACE.as_bytes(), b"".as_slice());
     let (form, mut sides) = (Form::default(), Sides::new(alloc));
@@ -91,7 +91,7 @@ fn goes_on_behind_a_difference(rt: HostRuntime) -> Result<(), Fail> {
     Ok(())
 }
 
-// The machine goes on behind a session of a trace.
+// Asserts that the machine goes on after a session of a trace.
 fn ends_session(rt: &impl Abort, alloc: Global, trace: &str) -> Result<(), Fail> {
     let mut player = player(alloc)?;
     let (mut out, mut err) = (Vec::new(alloc), Vec::new(alloc));
@@ -102,7 +102,7 @@ fn ends_session(rt: &impl Abort, alloc: Global, trace: &str) -> Result<(), Fail>
     Ok(())
 }
 
-// Behind one with bad lines, and behind one that a line has ended.
+// The machine goes on after a session with bad lines, and after a session that a line ended.
 #[test]
 fn goes_on_behind_a_session(rt: HostRuntime) -> Result<(), Fail> {
     ends_session(&rt, rt.alloc(), "store 40010000 2A\nload 4001\nfetch")?;

@@ -1,5 +1,6 @@
 // SPDX-License-Identifier: MIT OR Apache-2.0
-//! Machines in fresh RAM, and players on them. No contract says what they are, so no test that has one has to read it.
+//! Machines in fresh RAM, and players on them. No contract describes these machines, so the proof of a test does not
+//! read such a contract.
 use ffa_model::Manifest;
 use ffa_physmem::FlatRam;
 use ffa_reasons::Explained;
@@ -11,7 +12,7 @@ use std::test::Fail;
 // A player on a machine in flat RAM, without a cache.
 pub(crate) type FlatPlayer = Player<Explained<FlatRam>>;
 
-// A manifest's machine without a cache.
+// Returns a manifest's machine without a cache, in flat RAM.
 pub(crate) fn booted(alloc: Global, manifest: &Manifest) -> Result<Machine<FlatRam>, Fail> {
     let ram = FlatRam::new(alloc, manifest.ram_base, 512 * manifest.ram_blocks)?;
     Ok(Machine::boot(manifest, ram))

@@ -1,5 +1,5 @@
 // SPDX-License-Identifier: MIT OR Apache-2.0
-//! Commands whose output can't be written, whose input can't be read, or that are refused memory.
+//! Commands with output that cannot be written, with input that cannot be read, or without enough memory.
 
 use ffa_model::Ffa;
 use fixtures::ROW_TEXT;
@@ -10,9 +10,9 @@ use std::alloc::Global;
 use std::io::{self, Write};
 use std::process::Abort;
 
-// Memory that is refused.
+// Commands without enough memory.
 mod refused;
-// Comparisons and sessions with what can't be read or held.
+// Comparisons and sessions with texts that cannot be read, or for which there is no memory.
 mod sides;
 
 const MACHINE: MachineOptions = MachineOptions {
@@ -69,13 +69,13 @@ const LAYOUT: Request<'static> = Request::Layout {
     verbose: false,
 };
 
-// A first trace, and what it prints on the built-in machine.
+// A first trace, and the text that it prints on the built-in machine.
 const FIRST: &str = "call 84000069\nstore 40010000 2A\nload 40010000 1\nload 40020000 1\nshow\n";
 
 const FIRST_TEXT: &str =
     "regs 0000 0000000084000061 0000000000000000 0000000000000000 0000000000000000 0000000000000000 0000000000000000 0000000000000000 0000000000000000\ndone\ndata 2A\nfault translation\nrunner 0000\npages 40000000 4000FFFF 8000 --- ---\npages 40010000 4001FFFF 0000 rw- ---\npages 40020000 4002FFFF 8001 --- rwx\npages 40030000 401FFFFF 8000 --- ---\n";
 
-// The commands, with this memory for RAM and for what plays on it.
+// Returns the commands with this memory for RAM and for the player.
 fn program<A>(manifests: Global, alloc: A) -> Program<Booted, A> {
     Program {
         machines: Booted,
@@ -84,7 +84,7 @@ fn program<A>(manifests: Global, alloc: A) -> Program<Booted, A> {
     }
 }
 
-// What the play of a trace prints on the machine of the rows.
+// Returns the text that a play of a trace prints on the machine of the rows.
 fn printed(alloc: Global, trace: &str) -> Vec<u8> {
     let (mut out, mut err) = (Vec::new(alloc), Vec::new(alloc));
     let files = Files {
@@ -97,10 +97,10 @@ fn printed(alloc: Global, trace: &str) -> Vec<u8> {
     out
 }
 
-// The kinds of machine that play: with RAM in frames or in one piece, and with a cache of translations or none.
+// The kinds of machines that play, with RAM in frames or in one piece, and with or without a cache of translations.
 const KINDS: [(bool, bool); 4] = [(false, false), (true, false), (false, true), (true, true)];
 
-// A play on a machine of one kind.
+// Returns the request of a play on a machine of one kind.
 fn on_kind<'a>(play: PlayOptions<'a>, (frames, tlb): (bool, bool)) -> Request<'a> {
     let machine = MachineOptions {
         frames,
@@ -110,7 +110,8 @@ fn on_kind<'a>(play: PlayOptions<'a>, (frames, tlb): (bool, bool)) -> Request<'a
     Request::Play(PlayOptions { machine, ..play })
 }
 
-// Takes up to `room` bytes. Behind these it takes nothing, or fails, and it flushes where it says so.
+// A writer that takes up to `room` bytes. After these bytes it takes nothing, or it fails. It flushes only if `flushes`
+// is true.
 #[derive(Drop)]
 struct Stuck {
     room: usize,
@@ -119,7 +120,7 @@ struct Stuck {
 }
 
 impl Stuck {
-    // Takes nothing behind `room` bytes, and doesn't flush.
+    // Returns a writer that takes nothing after `room` bytes, and that does not flush.
     fn new(room: usize) -> Stuck {
         Stuck {
             room,
@@ -150,7 +151,7 @@ impl Write for Stuck {
 
 const CANNOT_WRITE: &str = "ffaplay: cannot write\n";
 
-// Performs a command that writes its text into `out`, and sees with which status it ends and what it tells.
+// Performs a command that writes its text to `out`. Asserts its status and its message.
 fn tells(
     rt: &impl Abort,
     alloc: Global,
@@ -181,7 +182,7 @@ fn tells_what_cannot_be_written(rt: HostRuntime) {
     }
 }
 
-// A command tells that nobody takes its text behind so many bytes.
+// Asserts that a command reports a writer that takes nothing after `room` bytes.
 fn tells_that_it_is_stuck(rt: &impl Abort, alloc: Global, request: &Request<'_>, room: usize) {
     let trace = Some("show\n");
     let wanted = (3, CANNOT_WRITE);
@@ -189,7 +190,7 @@ fn tells_that_it_is_stuck(rt: &impl Abort, alloc: Global, request: &Request<'_>,
     tells(rt, alloc, request, ROW_TEXT.as_bytes(), trace, out, wanted);
 }
 
-// A writer fails behind each byte of the text, but the last.
+// A writer fails after each number of bytes of the text, except after the whole text.
 #[test]
 fn tells_that_a_write_failed(rt: HostRuntime) {
     for (request, bytes) in [(&DEMO, 151_usize), (&CHECK, 9), (&LAYOUT, 96)] {
@@ -218,8 +219,8 @@ fn tells_that_a_write_failed(rt: HostRuntime) {
     }
 }
 
-// What is written stands in a buffer first, so that only the flush fails. The text before a bad line is lost, and the line
-// isn't told.
+// The program first writes to a buffer, so only the flush fails. The text before a bad line is lost, and the program
+// does not report the line.
 #[test]
 fn tells_that_the_flush_failed(rt: HostRuntime) {
     for trace in ["load 40010000 1\n", "load 40010000 1\nload 4001\n"] {
@@ -236,7 +237,7 @@ fn tells_that_the_flush_failed(rt: HostRuntime) {
     }
 }
 
-// Where a manifest is refused or a trace can't be read, nothing was printed.
+// If a manifest is refused or a trace cannot be read, the program printed nothing before.
 #[test]
 fn tells_an_earlier_fault_than_the_flush(rt: HostRuntime) {
     let unread = (3, "ffaplay: cannot read row.trace\n");
@@ -271,7 +272,7 @@ fn tells_an_earlier_fault_than_the_flush(rt: HostRuntime) {
     );
 }
 
-// Shows a help that nobody takes behind so many bytes.
+// Asserts that the program reports a writer that takes nothing of a help text after `room` bytes.
 fn tells_that_help_is_stuck(rt: &impl Abort, alloc: Global, room: usize) {
     let (mut out, mut err) = (Stuck::new(room), Vec::new(alloc));
     assert_eq!(rt; show(&"Usage: ffaplay", &mut out, &mut err), 3);

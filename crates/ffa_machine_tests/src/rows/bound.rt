@@ -1,5 +1,6 @@
 // SPDX-License-Identifier: MIT OR Apache-2.0
-//! The steps that calls on memory take, beside the bound that the definitions give: they lie within it, and it is at most twice as many.
+//! The number of steps of calls on memory, compared with the bound of the definitions. The number is at most the bound,
+//! and the bound is at most twice the number.
 use super::memory::{MAPPED, TO_FIRST, TO_SECOND};
 use super::*;
 use crate::checks::holds_at;
@@ -12,13 +13,14 @@ use ffa_spmc::Machine;
 use fixtures::writable;
 use std::fmt::Write;
 
-// For how many steps there is room from the beginning: a boot clears 16,384 pages, and the lend stores as many words.
+// The room of the record for steps. A boot clears 16,384 pages, and the lend stores some 16,000 words.
 const ROOM: usize = 40960;
 
-// The blocks of RAM. The first partition has half of the first one, page by page, and each other one whole.
+// The number of blocks of RAM. The first partition has half of the first block, page by page, and each other block
+// whole.
 const BLOCKS: u32 = 32;
 
-// The header of the lend and its one receiver.
+// The header of the lend, and its one receiver.
 const LEND: &str = "\
 store 4002E000 0000000000008001 -> done
 store 4002E018 0000000100000010 -> done
@@ -40,7 +42,7 @@ store 4003E008 0000000100000001 -> done
 store 4003E010 8002 -> done
 ";
 
-// The machine of the rows with so many blocks, and its tables after the regions of the rows.
+// Returns the machine of the rows with this number of blocks. Its tables come after the regions of the rows.
 fn many_blocks() -> Result<Manifest, ManifestError> {
     let mut endpoints = row_machine().endpoints;
     if let Some(endpoint) = endpoints.get_mut(1) {
@@ -50,12 +52,12 @@ fn many_blocks() -> Result<Manifest, ManifestError> {
     of_parts(0x4000_0000, BLOCKS, PageNo(64), endpoints, Ffa::V1_1)
 }
 
-// How many steps were recorded; none where the record has ended.
+// Returns the number of recorded steps, or 0 if the record has ended.
 fn recorded(player: &Player<Explained<Recorded>>) -> usize {
     player.machine().0.ram().steps().unwrap_or(0)
 }
 
-// A call takes at most so many steps, and at least half of them.
+// Asserts that a call takes at most `bound` steps, and at least half of them.
 fn is_within(
     rt: &impl Abort,
     alloc: Global,
@@ -71,7 +73,8 @@ fn is_within(
     Ok(())
 }
 
-// The address of the page that a range has: the first 31 ranges are in a block each, and the others in the first block.
+// Returns the address of the page of a range. Each of the first 31 ranges is in a block of its own, and the others are
+// in the first block.
 fn address_of(range: u8) -> u32 {
     let range = u32::from(range);
     if range < BLOCKS - 1 {
@@ -80,7 +83,7 @@ fn address_of(range: u8) -> u32 {
     0x4010_0000 + 0x2000 * (range - (BLOCKS - 1))
 }
 
-// The lines that store the ranges of the lend.
+// Returns the lines that store the ranges of the lend.
 fn ranges(alloc: Global) -> Result<String, Fail> {
     let mut lines = String::new(alloc);
     for range in 0..MOST_RANGES as u8 {
@@ -93,7 +96,7 @@ fn ranges(alloc: Global) -> Result<String, Fail> {
     Ok(lines)
 }
 
-// A lend of the most ranges splits 31 blocks, a relinquish writes zeros, and a reclaim joins the blocks again.
+// A lend of the most ranges splits 31 blocks, its relinquish writes zeros, and its reclaim joins the blocks again.
 #[test]
 fn calls_take_half_of_the_bound_at_least(rt: HostRuntime) -> Result<(), Fail> {
     let alloc = rt.alloc();
@@ -104,8 +107,8 @@ fn calls_take_half_of_the_bound_at_least(rt: HostRuntime) -> Result<(), Fail> {
     goes_on(&rt, alloc, &mut player, MAPPED)?;
     goes_on(&rt, alloc, &mut player, LEND)?;
     goes_on(&rt, alloc, &mut player, ranges(alloc)?.as_str())?;
-    // For each range a word for its page, two words and a settle for its block, and a settle; and for each of 31 blocks 516 words and two
-    // settles.
+    // Each range takes a word for its page, two words and a settle for its block, and a settle. Each of 31 blocks takes
+    // 516 words and two settles.
     is_within(
         &rt,
         alloc,
@@ -115,7 +118,7 @@ fn calls_take_half_of_the_bound_at_least(rt: HostRuntime) -> Result<(), Fail> {
     )?;
     goes_on(&rt, alloc, &mut player, TO_SECOND)?;
     goes_on(&rt, alloc, &mut player, RETRIEVE)?;
-    // The same for each range, without blocks that are split, and a loan for its page.
+    // Each range takes the same steps, and a loan for its page. No block is split.
     is_within(
         &rt,
         alloc,
@@ -124,7 +127,7 @@ fn calls_take_half_of_the_bound_at_least(rt: HostRuntime) -> Result<(), Fail> {
         64 * 6,
     )?;
     goes_on(&rt, alloc, &mut player, TO_FIRST)?;
-    // No range is settled.
+    // Each range takes the same steps without its own settle and without a loan.
     is_within(
         &rt,
         alloc,

@@ -1,5 +1,5 @@
 // SPDX-License-Identifier: MIT OR Apache-2.0
-//! Rows on machines with a cache of translations, and what the cache holds then.
+//! Rows on machines with a cache of translations, and the leaves that the cache then holds.
 use super::memory::{LEND, MAPPED, RELINQUISH, RETRIEVE, RETRIEVED, TO_FIRST, TO_SECOND};
 use super::watched::Watched;
 use super::*;
@@ -11,7 +11,7 @@ use ffa_spmc::Machine;
 use ffa_tlb::{InTurn, Replacement, Tlb};
 use fixtures::{FIRST, SECOND};
 
-// Picks one slot each time.
+// A policy that picks the same slot each time.
 #[derive(Drop)]
 struct Always(usize);
 
@@ -25,7 +25,7 @@ impl Replacement for Always {
     }
 }
 
-// The page that is lent.
+// The page that the rows lend.
 const LENT: PageNo = PageNo(0x21);
 
 const RECLAIM: &str = "\
@@ -35,13 +35,13 @@ load 40021000 1 -> data 5A
 
 const LOAD: &str = "load 40021000 1 -> data 00\n";
 
-// The page of RAM that a step has read, if it has read any.
+// Returns the page of RAM that a step read, if it read any.
 fn page_read(step: &str) -> Option<PageNo> {
     let (line, _data) = step.split_once(" -> data ")?;
     page_of(line.strip_prefix("load ")?)
 }
 
-// The page of an address and what stands behind it.
+// Returns the page of an address. `place` has the address, a space and a size.
 fn page_of(place: &str) -> Option<PageNo> {
     let (address, _size) = place.split_once(' ')?;
     let number = u32::from_str_radix(address, 16).ok()?;
@@ -56,7 +56,7 @@ fn is_held<M: PhysMem + Drop, T: Translations + Drop>(
     player.machine().0.cache().lookup(endpoint, page).is_some()
 }
 
-// Whether what a step has read has a leaf in the cache.
+// Whether the cache holds a leaf for the page that a step read. It is true if the step read no page.
 fn holds_what_was_read<M: PhysMem + Drop, T: Translations + Drop>(
     player: &Player<Explained<M, T>>,
     step: &str,
@@ -67,7 +67,8 @@ fn holds_what_was_read<M: PhysMem + Drop, T: Translations + Drop>(
     }
 }
 
-// Plays steps one by one. Each prints what is wanted, and what was loaded has a leaf in the cache.
+// Plays steps one by one. Asserts that each prints its text, and that the cache holds a leaf for each page that was
+// loaded.
 fn holds_what_is_read<T: Translations + Drop>(
     rt: &impl Abort,
     alloc: Global,
@@ -83,7 +84,7 @@ fn holds_what_is_read<T: Translations + Drop>(
     Ok(())
 }
 
-// A page is read before it is lent, before it is relinquished, and when it is back.
+// Reads a page before it is lent, before it is relinquished, and after it is reclaimed.
 fn reads_around_a_lend<T: Translations + Drop>(
     rt: &impl Abort,
     alloc: Global,
@@ -113,7 +114,7 @@ fn a_lend_with_four_in_turn(rt: HostRuntime) -> Result<(), Fail> {
     reads_around_a_lend(&rt, rt.alloc(), four_in_turn())
 }
 
-// Zeros stand in RAM, and nothing in the cache, whatever was there before a machine began.
+// At the boot of a machine, RAM is all zeros and the cache holds nothing, whatever they had before.
 #[test]
 fn begins_with_nothing(rt: HostRuntime) -> Result<(), Fail> {
     let mut cache = four_in_turn();
@@ -136,7 +137,7 @@ fn begins_with_nothing(rt: HostRuntime) -> Result<(), Fail> {
     goes_on(&rt, rt.alloc(), &mut player, LOAD)
 }
 
-// A player whose reads of tables are counted, with a cache of two entries.
+// Returns a player with a cache of two entries, whose RAM counts reads of tables.
 fn counting_player(alloc: Global) -> Result<Player<Explained<Watched, Tlb<InTurn, 2>>>, Fail> {
     let manifest = row_machine();
     let ram = Watched::new(alloc, &manifest)?;
@@ -144,7 +145,7 @@ fn counting_player(alloc: Global) -> Result<Player<Explained<Watched, Tlb<InTurn
     Ok(Player::new(Explained(Machine::boot_with(&manifest, ram, cache))))
 }
 
-// How often a trace reads tables.
+// Returns the number of reads of tables in a trace.
 fn reads_of<T: Translations + Drop>(
     alloc: Global,
     player: &mut Player<Explained<Watched, T>>,

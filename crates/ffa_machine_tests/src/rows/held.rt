@@ -1,6 +1,7 @@
 // SPDX-License-Identifier: MIT OR Apache-2.0
-//! A row on machines that keep the bytes with which their RAM came: in RAM of frames with a cache, and in room of the heap's. C can
-//! have neither. For machines of the library rust/tests/held.rs plays the same row.
+//! A row on machines that keep the bytes that were in their RAM before. One machine has RAM of frames with a cache, and
+//! the other has storage in a heap. C can have neither. The test rust/tests/held.rs plays this row on machines of the
+//! library.
 ghost use Rattle.std.specs.Prelude.{◌≡◌, ◌*◌, IfOk, length};
 
 use super::*;
@@ -11,7 +12,7 @@ use ffa_reasons::Explained;
 use ffa_spmc::{Fill, Given, Machine, Storage};
 use fixtures::set_word;
 
-// The first partition has code that nobody may write, and data; the second has data that nobody may write.
+// The first partition has code that nobody may write, and data. The second partition has data that nobody may write.
 const MANIFEST: &str = r#"
 ram_base = 0x40000000
 ram_blocks = 1
@@ -53,7 +54,7 @@ store 40030000 00 -> fault permission
 fetch 40030000 -> fault permission
 ";
 
-// What stands in a page before a boot, in its first and in its last word: a byte eight times, which is no zero.
+// Returns the word that is at the start and at the end of a page before a boot. It is a byte eight times, and not zero.
 fn mark(page: u32) -> u64 {
     let byte = 0x80 | (page % 0x80) as u8;
     0x0101_0101_0101_0101_u64.wrapping_mul(u64::from(byte))
@@ -66,7 +67,7 @@ fn mark_pages<M: PhysMem>(ram: &mut M) {
     }
 }
 
-// The RAM for a machine, with the mark of each page.
+// Returns the RAM for a machine, with the mark of each page.
 fn marked<M: PhysMem + Drop>(ram: M, manifest: &Manifest) -> Result<M, Fail>
     ensures base { IfOk result (λ ram. (M.ram ram).base ≡ manifest.now.ram_base.0) }
     ensures size { IfOk result (λ ram. length (M.ram ram).pages ≡ 512 * manifest.now.ram_blocks) }
@@ -88,7 +89,7 @@ fn marked_flat(alloc: Global, manifest: &Manifest) -> Result<FlatRam, Fail>
     marked(ram, manifest)
 }
 
-// Endpoints load and fetch the bytes of their regions, and reach no others.
+// Endpoints load and fetch the bytes of their own regions, and reach no other bytes.
 #[test]
 fn loads_what_came_with_ram(rt: HostRuntime) -> Result<(), Fail> {
     let manifest = read(rt.alloc(), MANIFEST)?;

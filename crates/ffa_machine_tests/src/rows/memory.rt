@@ -1,5 +1,5 @@
 // SPDX-License-Identifier: MIT OR Apache-2.0
-//! Steps of memory transactions, which rows share: descriptors stored word by word, and the calls.
+//! Steps of memory transactions for several rows: descriptors that are stored word by word, and the calls.
 
 // All endpoints map their buffers, and the first partition runs.
 pub(super) const MAPPED: &str = "\
@@ -35,7 +35,7 @@ call 84000072 60 60 -> 8001: 84000061 0 1 8001
 load 40021000 1 -> fault translation
 ";
 
-// The second retrieves the first transaction of the first.
+// The second partition retrieves the first transaction of the first partition.
 pub(super) const RETRIEVE: &str = "\
 store 4003E000 0000000000008001 -> done
 store 4003E008 0000800100000001 -> done
@@ -46,7 +46,7 @@ store 4003E030 0000000000028002 -> done
 
 pub(super) const RETRIEVED: &str = "call 84000074 40 40 -> 8002: 84000075 60 60\n";
 
-// The second stores into the page, and gives up what it holds.
+// The second partition stores into the page, and relinquishes it.
 pub(super) const RELINQUISH: &str = "\
 store 40021000 5A -> done
 store 4003E000 0000800100000001 -> done
@@ -68,7 +68,7 @@ store 4003E058 0000000000000001 -> done
 call 84000071 60 60 -> 8002: 84000061 0 1 8002
 ";
 
-// The first takes it, without execution, which the page never had.
+// The first partition retrieves the page without execution, which the page never had.
 pub(super) const TAKE: &str = "\
 store 4002E000 0000000000008002 -> done
 store 4002E008 0000800200000001 -> done

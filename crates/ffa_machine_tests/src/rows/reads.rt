@@ -1,6 +1,6 @@
 // SPDX-License-Identifier: MIT OR Apache-2.0
-//! Which pages of RAM an operation reads: the tables', and the one that the definition of what it reads names, since each TX
-//! here is of one page. No clause says that the code reads no more.
+//! The pages of RAM that an operation reads. They are the tables' pages, and the page that the definition of its reads
+//! names, because each TX here has one page. No clause says that the code reads no other page.
 ghost use Rattle.std.specs.Prelude.{◌≡◌, ◌*◌, IfOk};
 ghost use Rattle.ffa_model.specs.Ram.{zero_ram};
 
@@ -14,12 +14,12 @@ use std::cell::Cell;
 // The pages of the tables of the machine of the rows.
 const TABLES: u32 = 9;
 
-// The TX of the first partition and of the second, and a page of each that no call is to read.
+// The TX page of the first partition. The next constant is the TX page of the second partition.
 const FIRST_TX: u32 = 0x2E;
 
 const SECOND_TX: u32 = 0x3E;
 
-// RAM that notes which pages are read, besides the tables'.
+// RAM that notes which pages are read, except the tables' pages.
 #[derive(Drop)]
 struct Noting {
     ram: FlatRam,
@@ -29,7 +29,7 @@ struct Noting {
 }
 
 impl Noting {
-    // RAM of zeros for a machine.
+    // Returns a RAM of zeros for a machine.
     fn new(alloc: Global, manifest: &Manifest) -> Result<Noting, Fail>
         ensures { IfOk result (λ ram. ⟦<Noting as PhysMem>⟧.ram ram
             ≡ zero_ram manifest.now.ram_base.0 (512 * manifest.now.ram_blocks)) }
@@ -43,7 +43,7 @@ impl Noting {
         })
     }
 
-    // Forgets what was read: an operation begins, which reads this page.
+    // Forgets the noted reads before an operation, which may read this page.
     fn begin(&self, named: Option<u32>) {
         self.named.set(named);
         self.is_read.set(false);
@@ -74,7 +74,7 @@ impl PhysMem for Noting {
 
     ghost with_bytes = { λ m page bytes. record m { ram = ⟦<FlatRam as PhysMem>⟧.with_bytes m.ram page bytes } };
 
-    // No record is kept.
+    // This RAM keeps no record of its steps.
     ghost past = { λ _. unrecorded no_site };
 
     ghost beneath = { λ _. refl };
@@ -116,7 +116,7 @@ impl PhysMem for Noting {
     fn settle(&mut self, _endpoint: usize, _first: PageNo, _count: u32) {}
 }
 
-// Calls of the first partition and of the second: where their numbers are, and whether they read TX.
+// Whether a call with this x0 reads TX, by its function identifier.
 fn reads_tx(x0: u64) -> bool {
     matches!(
         x0 & 0xFFFF_FFFF,
@@ -124,7 +124,7 @@ fn reads_tx(x0: u64) -> bool {
     )
 }
 
-// The page that an operation of the runner may read.
+// Returns the page that an operation of the runner may read, besides the tables' pages.
 fn page_of(op: &Op, runner: u16) -> Option<u32> {
     match *op {
         Op::Call(x) if !reads_tx(x[0]) => None,
@@ -143,7 +143,7 @@ fn page_of(op: &Op, runner: u16) -> Option<u32> {
     }
 }
 
-// Does an operation, which reads the page that it may read, and no other. Answers whether it read that.
+// Does an operation. Asserts that it reads no page except the page that it may read. Returns whether it read this page.
 fn reads_only(rt: &impl Abort, machine: &mut Machine<Noting>, op: &Op, case: u64) -> bool {
     let named = page_of(op, machine.runner().0);
     machine.ram().begin(named);
@@ -175,7 +175,7 @@ fn is_refused(outcome: &Outcome) -> bool {
     }
 }
 
-// A machine whose first partition runs, and where all have buffers.
+// Returns a machine whose first partition runs, and whose endpoints all have buffers.
 fn noting_machine(alloc: Global) -> Result<Machine<Noting>, Fail> {
     let manifest = row_machine();
     let ram = Noting::new(alloc, &manifest)?;
@@ -189,7 +189,7 @@ fn noting_machine(alloc: Global) -> Result<Machine<Noting>, Fail> {
     Ok(machine)
 }
 
-// Does operations, none of which is refused.
+// Does operations, and asserts that no operation is refused.
 fn all_done(rt: &impl Abort, machine: &mut Machine<Noting>, ops: &[Op]) {
     for op in ops {
         let outcome = machine.op(op);
@@ -197,8 +197,8 @@ fn all_done(rt: &impl Abort, machine: &mut Machine<Noting>, ops: &[Op]) {
     }
 }
 
-// What the first partition writes to lend the page at 40021000, with zeros, and what the second writes to take it and to give
-// it up; the words of a message.
+// The words that the first partition writes to lend the page at 40021000, with zeros. The next two constants have the
+// words that the second partition writes to retrieve and to relinquish this page.
 const LEND: [(u64, u64); 8] = [
     (0x4002_E000, 0x1_0000_8001),
     (0x4002_E018, 0x1_0000_0010),
@@ -224,7 +224,7 @@ const RELINQUISH: [(u64, u64); 3] = [
     (0x4003_E010, 0x8002),
 ];
 
-// Writes words.
+// Writes words, and asserts that this reads no page.
 fn write(rt: &impl Abort, machine: &mut Machine<Noting>, words: &[(u64, u64)]) {
     for word in words {
         let read = reads_only(rt, machine, &store(word.0, word.1), word.0);
@@ -232,8 +232,8 @@ fn write(rt: &impl Abort, machine: &mut Machine<Noting>, words: &[(u64, u64)]) {
     }
 }
 
-// Calls on memory that are done read the page of TX that their descriptor is in, loads and fetches their page, and no
-// operation any other.
+// A lend, a retrieve and a relinquish that succeed read the page of TX with their descriptor. A load reads its own
+// page. A fetch without the right to execute does not read its page. No operation here reads another page.
 #[test]
 fn an_operation_reads_what_is_named(rt: HostRuntime) -> Result<(), Fail> {
     let mut machine = noting_machine(rt.alloc())?;
@@ -285,7 +285,7 @@ fn an_operation_reads_what_is_named(rt: HostRuntime) -> Result<(), Fail> {
     Ok(())
 }
 
-// The next of a row of numbers.
+// Returns the next number of a sequence.
 fn next(seed: &Cell<u64>) -> u64 {
     let value = u64::wrapping_add(
         u64::wrapping_mul(seed.get(), 6364136223846793005),
@@ -295,7 +295,8 @@ fn next(seed: &Cell<u64>) -> u64 {
     value >> 16
 }
 
-// An operation by numbers: a call of a number near those that are served, or an access near pages of the partitions.
+// Draws an operation from a sequence of numbers. It is a call whose number is near the served numbers, or an access
+// near pages of the partitions.
 fn drawn(seed: &Cell<u64>) -> Op {
     let kind = next(seed) % 8;
     let addr = u64::wrapping_add(0x4001_0000, 8 * (next(seed) % 0x6800));
@@ -314,7 +315,7 @@ fn drawn(seed: &Cell<u64>) -> Op {
     }
 }
 
-// So it is of operations that are drawn.
+// Operations that are drawn read only the pages that they may read.
 #[test]
 fn drawn_operations_read_what_is_named(rt: HostRuntime) -> Result<(), Fail> {
     let mut machine = noting_machine(rt.alloc())?;

@@ -1,6 +1,6 @@
 // SPDX-License-Identifier: MIT OR Apache-2.0
-//! Calls in RAM that keeps a record of its steps: the record goes on over words of tables, settlings, zeros, a copy, and pages
-//! that are lent to be written.
+//! Calls in RAM that keeps a record of its steps. The record goes on over words of tables, settling, zeros, a copy, and
+//! pages that are lent for writing.
 use super::memory::{MAPPED, RETRIEVE, RETRIEVED, TO_FIRST, TO_SECOND};
 use super::*;
 use crate::checks::holds_at;
@@ -9,7 +9,7 @@ use ffa_reasons::Explained;
 use ffa_recorded::Recorded;
 use ffa_spmc::Machine;
 
-// For how many steps there is room from the beginning: a boot clears 512 pages, which are the first ones.
+// The room of the record for steps. The boot makes the first steps, because it clears 512 pages.
 const ROOM: usize = 1024;
 
 // The first partition lends the page at 40021000 to the second, with zeros.
@@ -24,10 +24,10 @@ store 4002E058 0000000000000001 -> done
 call 84000072 60 60 -> 8001: 84000061 0 1 8001
 ";
 
-// The second has read the response.
+// The second partition has read the response.
 const RELEASE: &str = "call 84000065 -> 8002: 84000061\n";
 
-// The first sends the second a message of eight bytes.
+// The first partition sends the second a message of eight bytes.
 const MESSAGE: &str = "\
 store 4002E000 0000000000000000 -> done
 store 4002E008 0000000000000014 -> done
@@ -36,7 +36,7 @@ store 4002E010 0000000000000008 -> done
 call 84000086 -> 8001: 84000061
 ";
 
-// The machine of the rows, whose first partition runs.
+// Returns the machine of the rows, whose first partition runs.
 fn recorded_machine(rt: &impl Abort, alloc: Global) -> Result<Player<Explained<Recorded>>, Fail> {
     let manifest = row_machine();
     let ram = FlatRam::new(alloc, manifest.ram_base, 512 * manifest.ram_blocks)?;
@@ -46,12 +46,12 @@ fn recorded_machine(rt: &impl Abort, alloc: Global) -> Result<Player<Explained<R
     Ok(player)
 }
 
-// How many steps were recorded; none where the record has ended.
+// Returns the number of recorded steps, or 0 if the record has ended.
 fn recorded(player: &Player<Explained<Recorded>>) -> usize {
     player.machine().0.ram().steps().unwrap_or(0)
 }
 
-// A step that writes to RAM is recorded, whatever it does there.
+// Plays a step that writes to RAM, and asserts that it is recorded.
 fn is_recorded(
     rt: &impl Abort,
     alloc: Global,
@@ -64,7 +64,7 @@ fn is_recorded(
     Ok(())
 }
 
-// A lend with zeros, its retrieve and a message.
+// The record goes on over a lend with zeros, its retrieve and a message.
 #[test]
 fn a_record_goes_on(rt: HostRuntime) -> Result<(), Fail> {
     let mut player = recorded_machine(&rt, rt.alloc())?;

@@ -1,6 +1,6 @@
 // SPDX-License-Identifier: MIT OR Apache-2.0
-//! Rows where memory is short: none is left after boot, or each growth of the room for a line that comes in pieces is
-//! refused in turn.
+//! Rows on machines with little memory. Either no memory is free after the boot, or each growth of the room for a line
+//! that comes in pieces is refused in turn.
 use super::memory::{
     DONATE, LEND, MAPPED, RELINQUISH, RETRIEVE, RETRIEVED, TAKE, TAKEN, TO_FIRST, TO_SECOND,
 };
@@ -17,14 +17,14 @@ use play_syntax::PlayError;
 use std::alloc::AllocError;
 use std::io::Read;
 
-// What the RAM of the rows takes: its pages, and where it is in frames the list of their boxes, each of which names its
-// place and its heap.
+// The number of bytes of the pages of the rows' RAM. The next constant is the number of bytes of the list of boxes, if
+// the RAM is in frames. Each box names its place and its heap.
 const PAGES: usize = 512 * 4096;
 
 const LIST: usize = 512 * 16;
 
-// Plays a row of these parts where every allocation after boot is refused: RAM fills the heap that it lies in, and the player
-// has no other. The trace is read in one piece.
+// Plays a row of these parts, with each allocation after the boot refused. RAM fills the heap that it is in, and the
+// player has no other heap. The player reads the trace in one piece.
 fn plays_after_boot(rt: &impl Abort, alloc: Global, parts: &[&str]) -> Result<(), Fail> {
     let row = Row::of(alloc, parts)?;
     let heap = LocalHeap::new(alloc, PAGES)?;
@@ -35,7 +35,7 @@ fn plays_after_boot(rt: &impl Abort, alloc: Global, parts: &[&str]) -> Result<()
     check_over(rt, alloc, &row, &heap, &mut player)
 }
 
-// A player whose RAM fills a heap.
+// Returns a player whose RAM fills a heap.
 fn flat_player<'a>(
     rt: &impl Abort,
     heap: &'a LocalHeap,
@@ -56,7 +56,7 @@ fn player_in_frames<'a>(
     Ok(Player::new(Explained(Machine::boot_with(&manifest, ram, four_in_turn()))))
 }
 
-// Whether not one byte is left.
+// Whether the heap has not one free byte.
 fn is_full(heap: &LocalHeap) -> bool {
     Box::new(heap, 0u8).is_err()
 }
@@ -74,7 +74,7 @@ fn check_over<P: Playable>(
     Ok(())
 }
 
-// Plays with the memory of a heap.
+// Plays a trace with the memory of a heap.
 fn play_over<P: Playable, R: Read>(
     heap: &LocalHeap,
     player: &mut Player<P>,
@@ -110,7 +110,8 @@ pages 40040000 401FFFFF 8000 --- --- ---
     plays_after_boot(&rt, rt.alloc(), &donate)
 }
 
-// The second partition is told what partitions there are, gets a message, and is told of it.
+// The first partition gets the partition information, and sends the second a message. The second learns of it by
+// FFA_NOTIFICATION_GET.
 #[test]
 fn messages_without_memory(rt: HostRuntime) -> Result<(), Fail> {
     let message = "\
@@ -124,7 +125,7 @@ call 84000086 -> 8001: 84000061
     plays_after_boot(&rt, rt.alloc(), &[MAPPED, message, TO_SECOND, told])
 }
 
-// The lines of a row behind those that print this many bytes.
+// Returns the lines of a row after the lines that print this number of bytes.
 fn lines_behind(alloc: Global, row: &Row, printed: usize) -> Result<&[u8], Fail> {
     let mut player = Player::new(Explained(booted(alloc, &row_machine())?));
     let mut written = 0;
@@ -139,8 +140,9 @@ fn lines_behind(alloc: Global, row: &Row, printed: usize) -> Result<&[u8], Fail>
     Ok(row.trace.as_bytes().get(done..).unwrap_or(&[]))
 }
 
-// Plays a row with the memory of a heap. It prints the whole text, or is refused memory in a line and has printed the text
-// of the lines before; then a play of the lines from there on prints the rest. Answers how many bytes stood then.
+// Plays a row with the memory of a heap. Either the player prints the whole text, or it is refused memory in a line,
+// and has printed the text of the lines before. Then a play of the other lines prints the rest. Returns the number of
+// bytes that were printed before the refusal, if there was one.
 fn refused_at(
     rt: &impl Abort,
     alloc: Global,
@@ -160,7 +162,7 @@ fn refused_at(
     Ok(stopped)
 }
 
-// Plays a row that comes in pieces with so much memory, none of which is kept.
+// Plays a row that comes in pieces with this amount of memory. Asserts that the player keeps no memory.
 fn play_with(
     rt: &impl Abort,
     alloc: Global,
@@ -176,7 +178,7 @@ fn play_with(
     Ok(played)
 }
 
-// Whole lines were printed. Plays the lines of a row behind them.
+// Asserts that whole lines were printed, and plays the lines of the row after them.
 fn go_on_behind(
     rt: &impl Abort,
     alloc: Global,
@@ -190,7 +192,7 @@ fn go_on_behind(
     Ok(())
 }
 
-// Whether nothing stands behind the last line.
+// Whether a text ends at the end of a line.
 fn ends_a_line(text: &[u8]) -> bool {
     match text.last() {
         Some(byte) => *byte == b'\n',
@@ -198,8 +200,8 @@ fn ends_a_line(text: &[u8]) -> bool {
     }
 }
 
-// In how many places a row is refused memory, over heaps of every size up to one in which it isn't. A larger heap never
-// gets less far.
+// Returns the number of places in which a row is refused memory. It tries heaps of every size up to a size in which
+// nothing is refused. Asserts that a larger heap never stops a play earlier.
 fn places_of_refusal(
     rt: &impl Abort,
     alloc: Global,
@@ -220,7 +222,8 @@ fn places_of_refusal(
     Ok(places)
 }
 
-// Room for the rows' machine over a heap of this size: whether it came. Where it didn't, nothing of the heap is used.
+// Whether storage for the rows' machine fits a heap of this size. If it does not, asserts that no memory of the heap is
+// used.
 fn has_room(rt: &impl Abort, alloc: Global, size: usize) -> Result<bool, Fail> {
     let heap = LocalHeap::new(alloc, size)?;
     match Storage::allocate_for(&heap, &row_machine()) {
@@ -240,12 +243,13 @@ fn room_comes_whole_or_not(rt: HostRuntime) -> Result<(), Fail> {
             came = u64::saturating_add(came, 1);
         }
     }
-    // Four bytes for each of 512 pages, and 128 slots of 616 bytes, are 79 KiB: from there on there is room.
+    // The storage takes four bytes for each of 512 pages, and 616 bytes for each of 128 slots. These are 79 KiB, so it
+    // fits heaps from this size on.
     same(&rt, came, 50);
     Ok(())
 }
 
-// The room for a line grows to 8, 16, 32 and 64 bytes in the first line, which is as long as any.
+// The room for a line grows to 8, 16, 32 and 64 bytes in the first line, and no line is longer.
 #[test]
 fn a_lend_or_no_memory(rt: HostRuntime) -> Result<(), Fail> {
     let parts = [MAPPED, LEND, TO_SECOND, RETRIEVE, RETRIEVED];
@@ -255,7 +259,7 @@ fn a_lend_or_no_memory(rt: HostRuntime) -> Result<(), Fail> {
     Ok(())
 }
 
-// Adds a comment of this many bytes, and a line.
+// Adds a comment of this number of bytes, and a line.
 fn add_comment(row: &mut Row, length: usize) -> Result<(), Fail> {
     row.trace.push_str("#")?;
     for _ in 1..length {
@@ -265,7 +269,7 @@ fn add_comment(row: &mut Row, length: usize) -> Result<(), Fail> {
     row.add("load 40010000 1 -> data 00")
 }
 
-// Comments of 10 to 320 bytes, each of which grows the room for a line once more.
+// The comments have 10 to 320 bytes. Each makes the room for a line grow again.
 #[test]
 fn long_lines_or_no_memory(rt: HostRuntime) -> Result<(), Fail> {
     let mut row = Row::new(rt.alloc());
@@ -277,7 +281,8 @@ fn long_lines_or_no_memory(rt: HostRuntime) -> Result<(), Fail> {
     Ok(())
 }
 
-// The room for the runs of a certificate grows as they come. Where it can't, nothing of the line is written.
+// The room for the runs of a certificate grows as the runs come. If it cannot grow, the player writes nothing of the
+// line.
 #[test]
 fn a_certificate_or_no_memory(rt: HostRuntime) -> Result<(), Fail> {
     let mut row = Row::new(rt.alloc());

@@ -1,8 +1,8 @@
 // SPDX-License-Identifier: MIT OR Apache-2.0
-//! Calls that read TX in RAM to which others write at the same time: what one reading gave is what the call goes by.
+//! Calls that read TX in RAM to which others write at the same time. A call uses the bytes of one reading.
 //!
-//! One word of this RAM is another one at each reading, and another one still when the reading ends, so a call that read
-//! it twice, or after the end, would find two words.
+//! One word of this RAM changes at each reading, and again when the reading ends. So a call that read it twice, or
+//! after the end, would find two different words.
 ghost use Rattle.std.specs.Prelude.{◌≡◌, ℕ, ◌+◌, ◌*◌, ◌<◌, ◌≤◌, true, length, IfOk};
 ghost use Rattle.ffa_model.specs.Lists.{is_in_run};
 ghost use Rattle.ffa_model.specs.Ram.{page_of, zero_ram};
@@ -16,21 +16,22 @@ use ffa_physmem::{FlatRam, Observed, PhysMem};
 use ffa_spmc::{Cluster, Fill, Machine, Storage};
 use fixtures::{FIRST, partition, word, writable};
 
-// The machine of the rows with a third partition.
+// Returns the machine of the rows with a third partition.
 fn three_partitions() -> Result<Manifest, ManifestError> {
     let mut endpoints = row_machine().endpoints;
     endpoints.push(partition(0x20, writable(0x4004_0000, 16)));
     of_parts(0x4000_0000, 1, PageNo(0), endpoints, Ffa::V1_1)
 }
 
-// The first page of the first partition's TX, and the words of the page that its descriptor names and of its message's receiver.
+// The first page of the first partition's TX. The next two constants are places of words there. They are the word of
+// the page that its descriptor names, and the word of its message's receiver.
 const TX: PageNo = PageNo(0x2E);
 
 const NAMED: usize = 10;
 
 const RECEIVER: usize = 1;
 
-// Whether TX is one of so many pages from one on.
+// Whether TX is one of this number of pages from `first` on.
 fn has_tx(first: PageNo, count: u32) -> bool
     ensures { result ≡ is_in_run first.0 count 0x2E }
 {
@@ -38,7 +39,8 @@ fn has_tx(first: PageNo, count: u32) -> bool
     first <= u64::from(TX.0) && u64::from(TX.0) < first + count
 }
 
-// RAM a word of which others write: it is the next one whenever it is read at once, and whenever that ends.
+// RAM with a word to which others write. At each reading of its page, and at each end of a reading, the word becomes
+// the next one.
 #[derive(Drop)]
 struct Shifting {
     ram: FlatRam,
@@ -49,7 +51,7 @@ struct Shifting {
 }
 
 impl Shifting {
-    // RAM of zeros for a machine.
+    // Returns a RAM of zeros for a machine.
     fn new(
         alloc: Global,
         manifest: &Manifest,
@@ -69,7 +71,7 @@ impl Shifting {
         })
     }
 
-    // Writes the next word, where its page is one of these.
+    // Writes the next word, if its page is one of these pages.
     fn shift(&mut self, first: PageNo, count: u32)
         requires { first.0 + count ≤ length (⟦<FlatRam as PhysMem>⟧.ram self.old.ram).pages }
         ensures beside { IsBeside (⟦<FlatRam as PhysMem>⟧.ram self.old.ram) (⟦<FlatRam as PhysMem>⟧.ram self.new.ram)
@@ -97,7 +99,7 @@ impl PhysMem for Shifting {
 
     ghost with_bytes = { λ m page bytes. record m { ram = ⟦<FlatRam as PhysMem>⟧.with_bytes m.ram page bytes } };
 
-    // No record is kept.
+    // This RAM keeps no record of its steps.
     ghost past = { λ _. unrecorded no_site };
 
     ghost beneath = { λ _. refl };
@@ -136,7 +138,7 @@ impl PhysMem for Shifting {
 impl Observed for Shifting {
     ghost use Rattle.std.specs.Prelude.{true, false};
 
-    // A word changes at a reading's ends alone.
+    // A word changes only when a reading begins or ends.
     ghost is_alone = { false };
 
     ghost is_copying = { false };
@@ -157,12 +159,12 @@ impl Observed for Shifting {
     }
 }
 
-// A call with three registers.
+// Returns a call with these three registers.
 fn call(x0: u64, x1: u64, x2: u64) -> Op {
     Op::Call([x0, x1, x2, 0, 0, 0, 0, 0])
 }
 
-// FFA_RXTX_MAP of one page each.
+// Returns FFA_RXTX_MAP with one page for each buffer.
 fn map(tx: u64) -> Op {
     Op::Call([
         0x8400_0066,
@@ -184,7 +186,7 @@ fn store(addr: u64, value: u64) -> Op {
     }
 }
 
-// Does one operation, which lets no partition go on.
+// Does one operation that lets no preempted partition go on.
 fn act(machine: &mut Cluster<Shifting>, op: &Op) -> Outcome {
     let mut effect = Effect::Outcome(Outcome::Done);
     machine.op(op, &mut effect);
@@ -194,21 +196,21 @@ fn act(machine: &mut Cluster<Shifting>, op: &Op) -> Outcome {
     }
 }
 
-// Each partition maps its buffers, and the first one runs in the end.
+// Maps the buffers of each partition. The first partition runs at the end.
 fn begin(machine: &mut Cluster<Shifting>) {
     for (target, tx) in [
         (0x8003_0000, 0x4004_E000),
         (0x8002_0000, 0x4003_E000),
         (0x8001_0000, 0x4002_E000),
     ] {
-        // FFA_MSG_WAIT of the partition that runs, and FFA_RUN of the next.
+        // The partition that runs does FFA_MSG_WAIT, and the normal world does FFA_RUN of the next partition.
         let _ = act(machine, &call(0x8400_006B, 0, 0));
         let _ = act(machine, &call(0x8400_006D, target, 0));
         let _ = act(machine, &map(tx));
     }
 }
 
-// A machine whose first partition runs, and where all partitions have buffers.
+// Returns a machine whose first partition runs, and whose partitions all have buffers.
 fn shifting_machine(alloc: Global, word: usize, next: [u64; 2]) -> Result<Cluster<Shifting>, Fail>
     requires { word < 512 }
 {
@@ -221,7 +223,7 @@ fn shifting_machine(alloc: Global, word: usize, next: [u64; 2]) -> Result<Cluste
     Ok(machine)
 }
 
-// The registers in which an operation ends, if it is a call.
+// Returns the registers of a call's outcome.
 fn registers(outcome: &Outcome) -> [u64; 8] {
     match outcome {
         Outcome::Regs { x, .. } => *x,
@@ -229,7 +231,8 @@ fn registers(outcome: &Outcome) -> [u64; 8] {
     }
 }
 
-// A lend of the page at 40021000 to the second partition, but for the word that names the page.
+// Writes the descriptor of a lend of the page at 40021000 to the second partition. It omits the word that names the
+// page.
 fn write_lend(machine: &mut Cluster<Shifting>) {
     let words = [
         (0x00, 0x8001),
@@ -247,7 +250,7 @@ fn write_lend(machine: &mut Cluster<Shifting>) {
     }
 }
 
-// The page that the one reading names is lent, and not the one that stands in TX when the call ends.
+// The call lends the page that the reading names, and not the page that is named in TX when the call ends.
 #[test]
 fn a_descriptor_is_read_once(rt: HostRuntime) -> Result<(), Fail> {
     let mut machine = shifting_machine(rt.alloc(), NAMED, [0x4002_1000, 0x4002_2000])?;
@@ -272,7 +275,7 @@ fn a_descriptor_is_read_once(rt: HostRuntime) -> Result<(), Fail> {
     Ok(())
 }
 
-// A page of another endpoint that the one reading names is refused, though the next one names an own page.
+// The call refuses a page of another endpoint that the reading names, though TX names an own page when the call ends.
 #[test]
 fn a_bad_descriptor_is_read_once(rt: HostRuntime) -> Result<(), Fail> {
     let mut machine = shifting_machine(rt.alloc(), NAMED, [0x4003_1000, 0x4002_1000])?;
@@ -287,7 +290,7 @@ fn a_bad_descriptor_is_read_once(rt: HostRuntime) -> Result<(), Fail> {
     Ok(())
 }
 
-// A message goes to the receiver that the one reading names, with the bytes of that reading.
+// A message goes to the receiver that the reading names, with the bytes of this reading.
 #[test]
 fn a_message_is_read_once(rt: HostRuntime) -> Result<(), Fail> {
     let next = [0x8001_8002_0000_0018, 0x8001_8003_0000_0018];

@@ -1,11 +1,11 @@
 // SPDX-License-Identifier: MIT OR Apache-2.0
-//! Calls on memory in RAM that is looked at after each write, as a second processor could look: what the walk of a page
-//! answers is at any time what it was before the call, what it is behind it, or nothing; no page is filled with zeros to
-//! which a walk leads, or led since the page was last settled; and behind a call no translation unit may hold what a walk gave
-//! before it and gives no more.
+//! Calls on memory, with a look at RAM after each write, as a second processor could look. The tests check three
+//! things. At any time, the walk of a page has its result from before the call, its result from after the call, or a
+//! fault. No page is filled with zeros while a walk leads to it, or led to it since the page was last settled. After a
+//! call, no translation unit may hold a result of a walk that the walk no longer has.
 //!
-//! Each word of a table is a write of its own here, and no page of tables is lent by `page_mut`: of a loan a look would see
-//! all words at once. One page is lent in a retrieve, its caller's RX.
+//! Each word of a table is a write of its own here. No page of tables is lent by `page_mut`, because a look would see
+//! all words of a loan at once. A retrieve lends one page: its caller's RX.
 ghost use Rattle.std.specs.Prelude.{◌≡◌, ◌*◌, ◌<◌, length, IfOk};
 ghost use Rattle.ffa_model.specs.Ram.{zero_ram};
 
@@ -20,9 +20,10 @@ use ffa_walker::{is_in_ram, translate};
 use fixtures::{row_machine_with, writable};
 use std::cell::Cell;
 
-// The walk of a page by one endpoint's tables: what it answered when the call began, what else it answered that leads
-// somewhere, and what it answers now; what a translation unit may hold of it, since it was seen and not settled; whether it
-// answered nothing on the way, and whether more than one other thing.
+// The walk of a page by one endpoint's tables: its result when the call began, another result since then that leads to
+// a page, and its result now. `held` is the result that a translation unit may hold, because a look saw it and it was
+// not settled since. `is_broken` says that the walk faulted during the call. `is_strange` says that there was more than
+// one other result.
 #[derive(Drop)]
 struct Walk {
     endpoint: usize,
@@ -38,7 +39,7 @@ struct Walk {
 }
 
 impl Walk {
-    // What it answers now.
+    // Returns the result of the walk now.
     fn answer_in(&self, ram: &FlatRam) -> Result<Leaf, FaultKind> {
         if self.root % 4096 != 0 || !is_in_ram(ram, u64::from(self.root)) {
             return Err(FaultKind::OutsideRam);
@@ -46,7 +47,7 @@ impl Walk {
         translate(ram, self.root, self.address)
     }
 
-    // Notes what it answers now.
+    // Notes the result of the walk now.
     fn look(&self, ram: &FlatRam) {
         let answer = self.answer_in(ram);
         let last = self.answer.get();
@@ -66,18 +67,18 @@ impl Walk {
         }
     }
 
-    // Whether it answered anything but what it did before, what it does now, and nothing.
+    // Whether there was a result other than the result before the call, the result now, and a fault.
     fn is_wavering(&self) -> bool {
         let behind = self.behind.get();
         self.is_strange.get() || behind.is_ok() && behind != self.answer.get()
     }
 
-    // Whether a translation unit may hold another answer than that of now.
+    // Whether a translation unit may hold a result other than the result now.
     fn is_stale(&self) -> bool {
         self.held.get().is_ok() && self.held.get() != self.answer.get()
     }
 
-    // Forgets what was noted: a call begins.
+    // Forgets the notes, because a call begins.
     fn begin(&self) {
         self.before.set(self.answer.get());
         self.behind.set(Err(FaultKind::Translation));
@@ -86,10 +87,11 @@ impl Walk {
     }
 }
 
-// What the writes of a call did: how many walks answer otherwise behind it, how many answer the same but gave nothing on the
-// way, and how many gave anything else; how many pages became zeros, and how many of them while a translation unit could
-// reach them; of how many walks a translation unit may hold another answer behind it; how many pages were lent to be written,
-// of which a look sees all writes together.
+// The effects of a call's writes. `changed` is the number of walks with another result after the call, and `broken` the
+// number with the same result that faulted during the call. `wavering` is the number of walks that had a third result.
+// `cleared` is the number of pages that became zeros, and `reached` the number of them that a translation unit could
+// reach then. `stale` is the number of walks with another result in a translation unit after the call. `lent` is the
+// number of pages that were lent for writing: a look sees all writes to them at once.
 #[derive(Clone, Copy, Debug, PartialEq, Eq)]
 struct Writes {
     changed: u32,
@@ -104,8 +106,8 @@ struct Writes {
 // The pages of the tables of the machine of the rows.
 const TABLES: u32 = 9;
 
-// RAM that is looked at after each write of a call: the walk of some pages, by the tables of every endpoint. Reads of tables
-// are counted at any time.
+// RAM that looks at walks after each write of a call: the walks of some pages, by the tables of every endpoint. It
+// counts reads of tables at any time.
 #[derive(Drop)]
 pub(super) struct Watched {
     ram: FlatRam,
@@ -116,7 +118,7 @@ pub(super) struct Watched {
 }
 
 impl Watched {
-    // Counts the read of a page, if it is one of the tables'.
+    // Counts the read of a page, if it is a page of the tables.
     fn count(&self, page: PageNo) {
         if page.0 < TABLES {
             self.reads.set(self.reads.get().wrapping_add(1));
@@ -142,7 +144,7 @@ impl Watched {
         })
     }
 
-    // Forgets what was counted: a call begins.
+    // Forgets the counts, because a call begins.
     fn begin(&self) {
         self.is_call.set(true);
         self.look();
@@ -152,7 +154,7 @@ impl Watched {
         self.writes.set(NOTHING);
     }
 
-    // What was counted since then: the call is over.
+    // Returns the counts since the call began, because the call is over.
     fn counted(&self) -> Writes {
         self.look();
         self.is_call.set(false);
@@ -193,7 +195,7 @@ impl PhysMem for Watched {
 
     ghost with_bytes = { λ m page bytes. record m { ram = ⟦<FlatRam as PhysMem>⟧.with_bytes m.ram page bytes } };
 
-    // No record is kept.
+    // This RAM keeps no record of its steps.
     ghost past = { λ _. unrecorded no_site };
 
     ghost beneath = { λ _. refl };
@@ -263,7 +265,7 @@ impl PhysMem for Watched {
 }
 
 impl Watched {
-    // RAM of zeros for a machine.
+    // Returns a RAM of zeros for a machine.
     pub(super) fn new(alloc: Global, manifest: &Manifest) -> Result<Watched, Fail>
         ensures { IfOk result (λ ram. ⟦<Watched as PhysMem>⟧.ram ram
             ≡ zero_ram manifest.now.ram_base.0 (512 * manifest.now.ram_blocks)) }
@@ -280,7 +282,7 @@ impl Watched {
     }
 }
 
-// The walks from the roots of all endpoints.
+// Returns the walks from the roots of all endpoints.
 fn walks_of(alloc: Global, manifest: &Manifest) -> Result<Vec<Walk>, Fail> {
     let mut walks = Vec::new(alloc);
     for index in 0..manifest.endpoints.len() {
@@ -289,7 +291,7 @@ fn walks_of(alloc: Global, manifest: &Manifest) -> Result<Vec<Walk>, Fail> {
     Ok(walks)
 }
 
-// Adds the walks of an endpoint for the first three pages of each block, and its last three.
+// Adds the walks of an endpoint for the first three and the last three pages of each block.
 fn push_walks(walks: &mut Vec<Walk>, manifest: &Manifest, endpoint: usize) -> Result<(), Fail>
     requires { endpoint < length manifest.now.endpoints.items }
 {
@@ -313,8 +315,8 @@ fn push_walks(walks: &mut Vec<Walk>, manifest: &Manifest, endpoint: usize) -> Re
     Ok(())
 }
 
-// The machine of the rows with a block more, whose first partition has it whole, and the two pages before it. That partition
-// runs, and all have buffers.
+// Returns the machine of the rows with one more block. Its first partition has this whole block, and the two pages
+// before it. That partition runs, and all endpoints have buffers.
 fn watched_machine(rt: &impl Abort, alloc: Global) -> Result<Player<Explained<Watched>>, Fail> {
     let manifest = row_machine_with(2, 1, writable(0x401F_E000, 514))?;
     let ram = Watched::new(alloc, &manifest)?;
@@ -323,7 +325,7 @@ fn watched_machine(rt: &impl Abort, alloc: Global) -> Result<Player<Explained<Wa
     Ok(player)
 }
 
-// What the writes of a call do, which prints what is wanted.
+// Plays a call that prints its text. Returns the effects of the call's writes.
 fn writes_of(
     rt: &impl Abort,
     alloc: Global,
@@ -335,8 +337,8 @@ fn writes_of(
     Ok(player.machine().0.ram().counted())
 }
 
-// Pages that are sent: how many they are, and how many of them are looked at; and of how many others, that are looked at, the
-// sender's block is split or joined.
+// Pages that a partition sends. `pages` is their number, and `looked_at` the number of them that the RAM looks at.
+// `beside` is the number of other pages that it looks at, and whose block is split or joined for the sender.
 struct Sending {
     steps: &'static str,
     pages: u32,
@@ -369,7 +371,7 @@ store 4002E058 0000000000000002 -> done
 };
 
 impl Sending {
-    // Changes of the access to these pages, which become zeros.
+    // Returns the effects of a call that changes the access to these pages and fills them with zeros.
     fn with_zeros(&self) -> Writes {
         Writes {
             changed: self.looked_at,
@@ -378,7 +380,7 @@ impl Sending {
         }
     }
 
-    // The same of the sender, whose block is broken for it.
+    // Returns the effects of a call of the sender that also splits or joins the sender's block.
     fn with_a_break(&self) -> Writes {
         Writes {
             broken: self.beside,
@@ -386,7 +388,7 @@ impl Sending {
         }
     }
 
-    // Changes of the access to these pages, which keep their bytes.
+    // Returns the effects of a call that changes the access to these pages and keeps their bytes.
     fn with_bytes(&self) -> Writes {
         Writes {
             cleared: 0,
@@ -394,7 +396,7 @@ impl Sending {
         }
     }
 
-    // The same of the sender, whose block is broken for it.
+    // Returns the effects of a call of the sender that keeps the bytes, and also splits or joins the sender's block.
     fn with_bytes_and_a_break(&self) -> Writes {
         Writes {
             cleared: 0,
@@ -402,7 +404,7 @@ impl Sending {
         }
     }
 
-    // Changes of the access to these pages, and a response in RX.
+    // Returns the effects of a call that changes the access to these pages and writes a response to RX.
     fn with_response(&self) -> Writes {
         Writes {
             changed: self.looked_at,
@@ -412,7 +414,7 @@ impl Sending {
     }
 }
 
-// A send of the first partition to the second, with zeros.
+// The first partition sends to the second, with zeros.
 const ZEROED: &str = "\
 store 4002E000 0000000100008001 -> done
 store 4002E018 0000000100000010 -> done
@@ -423,7 +425,7 @@ const LENT: &str = "store 4002E030 0000004000028002 -> done\n";
 
 const DONATED: &str = "store 4002E030 0000004000008002 -> done\n";
 
-// The second gives up what it holds, with zeros.
+// The second partition relinquishes the transaction, with zeros.
 const GIVEN_UP: &str = "\
 store 4003E000 0000800100000001 -> done
 store 4003E008 0000000100000001 -> done
@@ -434,7 +436,8 @@ const RETRIEVED: &str = "response: call 84000074 40 40 -> 8002: 84000075 60 60";
 
 const RECLAIM: &str = "break and zeros: call 84000077 1 8001 1 -> 8001: 84000061";
 
-// Plays steps one by one on a machine whose first partition runs. What a step does that is a call on memory is counted.
+// Plays steps one by one on a machine whose first partition runs. Counts the effects of each step that is a call on
+// memory.
 fn counts(rt: &impl Abort, alloc: Global, sending: &Sending, parts: &[&str]) -> Result<(), Fail> {
     let mut player = watched_machine(rt, alloc)?;
     for part in parts {
@@ -473,21 +476,21 @@ fn counts_step(
     Ok(())
 }
 
-// How a lend is sent, how it is given up, and how it is reclaimed.
+// The steps of a lend: how the sender sends it, how the receiver relinquishes it, and how the sender reclaims it.
 struct Lending {
     send: &'static str,
     give_up: &'static str,
     reclaim: &'static str,
 }
 
-// With zeros at each step that may have them.
+// A lend with zeros at each step that may have them.
 const WITH_ZEROS: Lending = Lending {
     send: "break and zeros: call 84000072 60 60 -> 8001: 84000061 0 1 8001",
     give_up: "zeros: call 84000076 -> 8002: 84000061",
     reclaim: RECLAIM,
 };
 
-// Every page keeps its bytes.
+// A lend in which every page keeps its bytes.
 const WITH_BYTES: Lending = Lending {
     send: "\
 store 4002E000 0000000000008001 -> done
@@ -500,7 +503,7 @@ bytes: call 84000076 -> 8002: 84000061
     reclaim: "break and bytes: call 84000077 1 8001 0 -> 8001: 84000061",
 };
 
-// A lend and its way back.
+// Plays a lend, its retrieve, its relinquish and its reclaim.
 fn lends(rt: &impl Abort, alloc: Global, sending: &Sending, lending: &Lending) -> Result<(), Fail> {
     let parts = [
         ZEROED,
@@ -531,7 +534,7 @@ fn each_write_of_a_lend_that_keeps_its_bytes(rt: HostRuntime) -> Result<(), Fail
     lends(&rt, rt.alloc(), &INSIDE, &WITH_BYTES)
 }
 
-// A donate that is reclaimed, with zeros at each step, and another that is retrieved.
+// Plays a donate that is reclaimed, with zeros at each step, and another donate that is retrieved.
 fn donates(rt: &impl Abort, alloc: Global, sending: &Sending) -> Result<(), Fail> {
     let parts = [
         ZEROED,

@@ -1,5 +1,5 @@
 // SPDX-License-Identifier: MIT OR Apache-2.0
-//! The same machine of several processors once more.
+//! Copies of a machine that several processors run.
 ghost use Rattle.std.specs.Prelude.{◌≡◌, []};
 ghost use Rattle.ffa_physmem.specs.Moments.{HasNoCopies};
 ghost use Rattle.ffa_spmc.specs.Copies.{IsRamToCopy, IsRoomToCopy};
@@ -13,7 +13,8 @@ use ffa_physmem::PhysMem;
 use ffa_tlb::Translations;
 
 impl<M: PhysMem + Drop, T: Translations + Drop, S: Store> Cluster<M, T, S> {
-    /// The same machine in other RAM and other room, as `Machine::copy_in`: on each processor runs who runs there in this one.
+    /// Returns a copy of this machine in this RAM and this storage, with this cache, as `Machine::copy_in` does. The
+    /// same endpoint runs on each processor of the copy.
     #[inline(never)]
     pub fn copy_in<N: PhysMem + Drop, U: Translations + Drop, R: Store>(
         &self,
@@ -37,7 +38,7 @@ impl<M: PhysMem + Drop, T: Translations + Drop, S: Store> Cluster<M, T, S> {
     }
 }
 
-// The same endpoints once more.
+// Returns a copy of these endpoints.
 fn same_runners(
     runners: &ArrayVec<EndpointId, MOST_PROCESSORS>,
 ) -> ArrayVec<EndpointId, MOST_PROCESSORS>

@@ -14,14 +14,14 @@ use ffa_model::{FaultKind, Leaf, Op, Outcome, PageNo, Size};
 use ffa_physmem::PhysMem;
 use ffa_tlb::Translations;
 
-// What the walk of an address answered, and the page of the address where no leaf is held for it yet.
+// The result of the walk of an address. It also has the page of the address, if the cache holds no leaf for it yet.
 #[derive(Clone, Copy)]
 struct Walked {
     answer: Result<Leaf, FaultKind>,
     missed: Option<PageNo>,
 }
 
-// The leaf of a page's first address, moved to an address of the page.
+// Moves the leaf of a page's first address to an address of the page.
 fn moved_to(leaf: Leaf, addr: u64) -> Leaf
     requires { leaf.phys + addr % 4096 < 2 ^ 64 }
     ensures { result ≡ moved_to leaf addr }
@@ -32,7 +32,7 @@ fn moved_to(leaf: Leaf, addr: u64) -> Leaf
     }
 }
 
-// The leaf of an address, moved to the first one of its page.
+// Moves the leaf of an address to the first address of its page.
 fn moved_back(leaf: Leaf, addr: u64) -> Leaf
     requires { addr % 4096 ≤ leaf.phys }
     ensures { result ≡ moved_back leaf addr }
@@ -44,14 +44,14 @@ fn moved_back(leaf: Leaf, addr: u64) -> Leaf
 }
 
 impl<M: PhysMem + Drop, T: Translations + Drop, S: Store> Machine<M, T, S> {
-    // The walk of an address for the runner: by the leaf that is held for its page, or else by the runner's table. It is
-    // inlined, though accesses of three kinds call it.
+    // Returns the walk of an address for the runner. If the cache holds a leaf for the address's page, it uses this
+    // leaf, and otherwise the runner's table. It is inlined, though accesses of three kinds call it.
     #[inline(always)]
     fn walk(&self, addr: u64) -> Walked
         ensures answer { result.answer ≡ walk_of self.now.ram self.now.state self.now.state.runner addr }
         ensures missed { option_map (λ (page : PageNo). page.0) result.missed ≡ missed_page self.now addr }
     {
-        // Proof step: the state is sound, and the tables give its access.
+        // Proof step: the state is sound, and the tables grant its access.
         self.manager.holds();
         let page = self.manager.page_of(addr);
         if let Some(page) = page
@@ -68,8 +68,8 @@ impl<M: PhysMem + Drop, T: Translations + Drop, S: Store> Machine<M, T, S> {
         }
     }
 
-    // Fills the cache with what the walk of an address answered, where the access was done and no leaf is held for its
-    // page. It is inlined, alike.
+    // Fills the cache with the result of an address's walk, if the access was done and the cache holds no leaf for the
+    // page. It is inlined, as `walk` is.
     #[inline(always)]
     fn fill(&mut self, addr: u64, walked: &Walked, outcome: &Outcome)
         requires answer { walked.now.answer ≡ walk_of self.old.ram self.old.state self.old.state.runner addr }
@@ -80,14 +80,14 @@ impl<M: PhysMem + Drop, T: Translations + Drop, S: Store> Machine<M, T, S> {
             return;
         }
         if let (Some(page), Ok(leaf)) = (walked.missed, walked.answer) {
-            // Proof step: the state is sound, and the tables give its access.
+            // Proof step: the state is sound, and the tables grant its access.
             self.holds();
             let runner = self.manager.runner();
             self.cache.fill(runner, page, moved_back(leaf, addr));
         }
     }
 
-    // A load of the runner.
+    // Does a load of the runner.
     #[inline(always)]
     pub(super) fn load(&mut self, addr: u64, size: Size, outcome: &mut Outcome)
         ensures { IsDone self.old (Op.Load addr size) outcome.new self.new }
@@ -101,7 +101,7 @@ impl<M: PhysMem + Drop, T: Translations + Drop, S: Store> Machine<M, T, S> {
         self.holds();
     }
 
-    // A fetch, alike.
+    // Does a fetch of the runner.
     pub(super) fn fetch(&mut self, addr: u64, outcome: &mut Outcome)
         ensures { IsDone self.old (Op.Fetch addr) outcome.new self.new }
     {
@@ -114,7 +114,7 @@ impl<M: PhysMem + Drop, T: Translations + Drop, S: Store> Machine<M, T, S> {
         self.holds();
     }
 
-    // A store, alike.
+    // Does a store of the runner.
     #[inline(always)]
     pub(super) fn store(&mut self, addr: u64, size: Size, value: u64, outcome: &mut Outcome)
         ensures { IsDone self.old (Op.Store addr size value) outcome.new self.new }

@@ -1,5 +1,5 @@
 // SPDX-License-Identifier: MIT OR Apache-2.0
-//! The certificate of a machine, run by run, and whether its tables give what a certificate says.
+//! The certificate of a machine, run by run, and the audit of its tables by a certificate.
 ghost use Rattle.std.specs.Prelude.{◌≡◌, ◌+◌, ◌-◌, ◌<◌, ◌↔◌, IsTrue, None, Some, if◌then◌else◌, length};
 ghost use Rattle.std.specs.List.{list_all};
 ghost use Rattle.ffa_model.specs.declared.limits.TheConstants.{MOST_ENDPOINTS};
@@ -19,8 +19,9 @@ use ffa_physmem::PhysMem;
 use ffa_tlb::Translations;
 
 impl<M: PhysMem + Drop, T: Translations + Drop, S: Store> Machine<M, T, S> {
-    /// The longest run from a page of the RAM on whose pages have one owner, one open transaction or none, and one access of
-    /// each endpoint. It takes no memory.
+    /// Returns the longest run of pages that begins with a page of the RAM and has one owner and one access. All its
+    /// pages are in the same open transaction, or in no open transaction. Each endpoint has the same access to all of
+    /// them. It allocates no memory.
     #[tactic(auto, unfolding(ffa_model::specs::Certificate::run_from))]
     pub fn cert_run(&self, from: PageNo) -> CertRun
         requires { from.0 < length self.now.state.pages }
@@ -36,9 +37,9 @@ impl<M: PhysMem + Drop, T: Translations + Drop, S: Store> Machine<M, T, S> {
         }
     }
 
-    /// Whether runs of pages are a certificate that the machine's tables give: over the RAM's bytes alone, as
-    /// `ffa_walker::audit` judges them. It says nothing of owners and handles. The runs of `cert_run` from page 0 on, one
-    /// behind the other, are such a certificate. It takes no memory.
+    /// Whether the machine's tables grant exactly what these runs of pages say, from RAM's first page to its last. It
+    /// reads only the RAM's bytes, as `ffa_walker::audit` does. It does not check owners and handles. It is true for
+    /// the machine's own certificate: the runs of `cert_run` from page 0 on, one after another. It allocates no memory.
     pub fn audit(&self, runs: &[CertRun]) -> bool
         ensures certified { IsTrue result ↔ IsCertified self.now.ram (roots_of self.now.state) runs.now }
         ensures own { runs.now ≡ certificate self.now.state → IsTrue result }
@@ -46,8 +47,8 @@ impl<M: PhysMem + Drop, T: Translations + Drop, S: Store> Machine<M, T, S> {
         self.manager.audit(runs)
     }
 
-    /// The address of the level 1 table by which an endpoint's accesses are translated, as VTTBR_EL2 names it while the
-    /// endpoint runs (DDI 0487, D17.2). Nothing for an endpoint that isn't there.
+    /// Returns the address of the level 1 table that translates an endpoint's accesses. VTTBR_EL2 has this address
+    /// while the endpoint runs (DDI 0487, D17.2). Returns `None` if the machine has no such endpoint.
     pub fn root_of(&self, endpoint: EndpointId) -> Option<u32>
         ensures { let known = is_known self.now.state endpoint.0 in
             result ≡ (if known then Some (root self.now.state (place endpoint.0)) else None) }
@@ -59,7 +60,7 @@ impl<M: PhysMem + Drop, T: Translations + Drop, S: Store> Machine<M, T, S> {
         }
     }
 
-    /// The same of the endpoint at a place, from 0.
+    /// Returns the address of the level 1 table of the endpoint at a place. Places are counted from 0.
     pub fn root_at(&self, place: usize) -> u32
         requires { place < length self.now.state.parties }
         ensures { result ≡ root self.now.state place }
@@ -91,7 +92,8 @@ impl<M: PhysMem + Drop, T: Translations + Drop, S: Store> Machine<M, T, S> {
         true
     }
 
-    /// The handle of the open transaction in which a page of the RAM stands.
+    /// Returns the handle of the open transaction that has a page of the RAM. Returns `None` if no open transaction has
+    /// it.
     pub fn handle_at(&self, page: PageNo) -> Option<u64>
         requires { page.0 < length self.now.state.pages }
         ensures { result ≡ handle_at self.now.state page.0 }
@@ -99,7 +101,7 @@ impl<M: PhysMem + Drop, T: Translations + Drop, S: Store> Machine<M, T, S> {
         self.manager.handle_at(page)
     }
 
-    // Whether two pages are alike, and stand in one open transaction or in none.
+    // Whether two pages are alike, and are in the same open transaction or both in no open transaction.
     #[tactic(auto, unfolding(ffa_model::specs::Certificate::are_as_one))]
     fn are_as_one(&self, page: PageNo, other: PageNo) -> bool
         requires page { page.0 < length self.now.state.pages }
@@ -109,7 +111,7 @@ impl<M: PhysMem + Drop, T: Translations + Drop, S: Store> Machine<M, T, S> {
         self.is_alike(page, other) && is_same_handle(self.handle_at(page), self.handle_at(other))
     }
 
-    // The last page of the run that goes on from a page.
+    // Returns the last page of the run that goes on from a page.
     fn last_from(&self, from: PageNo) -> PageNo
         requires { from.0 < length self.now.state.pages }
         ensures { result.0 ≡ last_from self.now.state from.0 (length self.now.state.pages - (from.0 + 1)) }
@@ -122,7 +124,7 @@ impl<M: PhysMem + Drop, T: Translations + Drop, S: Store> Machine<M, T, S> {
         PageNo(last)
     }
 
-    // The access of each endpoint to a page, by place.
+    // Returns the access of each endpoint to a page, by place.
     fn accesses(&self, page: PageNo) -> [Option<Rights>; MOST_ENDPOINTS]
         ensures { result ≡ listed MOST_ENDPOINTS (access_by_place self.now.state page.0) }
     {

@@ -1,5 +1,5 @@
 // SPDX-License-Identifier: MIT OR Apache-2.0
-//! The same machine once more, in other RAM and other room.
+//! Copies of a machine, in other RAM and other storage.
 ghost use Rattle.std.specs.Prelude.{◌≡◌, ◌*◌, [], length};
 ghost use Rattle.ffa_spmc.specs.Copies.{IsRamToCopy, IsRoomToCopy};
 ghost use Rattle.ffa_spmc.specs.Mixtures.{TablesRest};
@@ -11,9 +11,10 @@ use ffa_physmem::PhysMem;
 use ffa_tlb::Translations;
 
 impl<M: PhysMem + Drop, T: Translations + Drop, S: Store> Machine<M, T, S> {
-    /// The same machine in this RAM, of which it writes every byte, and in this room, with a cache that holds nothing at first. The
-    /// two share nothing, so what one does leaves the other as it is. The tables are at rest, as behind a boot.
-    // Not inlined, as a boot isn't.
+    /// Returns a copy of this machine in this RAM and this storage, with a cache that holds nothing at first. It writes
+    /// every byte of the RAM. The two machines share nothing, so an operation of one does not change the other. The
+    /// tables are at rest, as after a boot.
+    // It is not inlined, as a boot is not.
     #[inline(never)]
     pub fn copy_in<N: PhysMem + Drop, U: Translations + Drop, R: Store>(
         &self,
@@ -36,7 +37,7 @@ impl<M: PhysMem + Drop, T: Translations + Drop, S: Store> Machine<M, T, S> {
         }
     }
 
-    /// The manifest, for which room for a copy is taken as for a boot.
+    /// Returns the manifest. Use it to allocate the storage for a copy, as for a boot.
     pub fn manifest(&self) -> &Manifest
         ensures base { result.now.ram_base.0 ≡ self.now.ram.base }
         ensures pages { 512 * result.now.ram_blocks ≡ length self.now.ram.pages }

@@ -1,5 +1,5 @@
 // SPDX-License-Identifier: MIT OR Apache-2.0
-//! Interrupts: one may preempt the partition that runs, and FFA_RUN lets that go on where it was.
+//! Interrupts, which can preempt the partition that runs. FFA_RUN lets this partition go on where it was.
 ghost use Rattle.std.specs.Option.{option_map};
 ghost use Rattle.std.specs.Prelude.{◌≡◌};
 ghost use Rattle.ffa_model.specs.Agreement.{Agrees};
@@ -23,11 +23,12 @@ use ffa_physmem::PhysMem;
 use ffa_tlb::Translations;
 
 impl<M: PhysMem + Drop, T: Translations + Drop, S: Store> Machine<M, T, S> {
-    /// An interrupt that the normal world is to take (DEN0077A, 9): a partition that runs is preempted, and the normal world
-    /// runs and sees FFA_INTERRUPT, which says which partition it was. Where the normal world runs, nothing is done.
+    /// Takes an interrupt for the normal world (DEN0077A, 9). A partition that runs is preempted, and the normal world
+    /// runs. The normal world sees FFA_INTERRUPT, which names the partition. If the normal world runs already, nothing
+    /// changes, and the outcome is `Done`.
     pub fn interrupt(&mut self) -> Outcome
         ensures outcome { result ≡ (interrupt self.old.state).outcome }
-        // All but the run states is as it was: tables and RAM, and what the cache holds and tells.
+        // Everything except the run states is as before: tables and RAM, the cache, and the report of changed access.
         ensures machine { self.new ≡ in_state self.old (interrupt self.old.state).state }
         ensures agrees { Agrees self.new.ram self.new.state }
         ensures sound { IsSoundState self.new.state }
@@ -35,17 +36,17 @@ impl<M: PhysMem + Drop, T: Translations + Drop, S: Store> Machine<M, T, S> {
     {
         let runner = self.runner();
         if runner == EndpointId::NORMAL_WORLD {
-            // Proof step: the state is sound, and the tables give its access.
+            // Proof step: the state is sound, and the tables grant its access.
             self.manager.holds();
             return Outcome::Done;
         }
         self.switch(Status::Preempted, EndpointId::NORMAL_WORLD);
-        // Proof step: the state is sound, and the tables give its access.
+        // Proof step: the state is sound, and the tables grant its access.
         self.manager.holds();
         interrupted(runner)
     }
 
-    // The preempted partition that an operation of the runner lets go on, if it does.
+    // Returns the preempted partition that an operation of the runner lets go on, if there is one.
     #[inline(always)]
     pub(crate) fn resumed_by(&self, op: &Op) -> Option<EndpointId>
         ensures { option_map (λ (e : EndpointId). e.0) result ≡ resumed_by self.now.state op.now }
@@ -53,7 +54,7 @@ impl<M: PhysMem + Drop, T: Translations + Drop, S: Store> Machine<M, T, S> {
         self.manager.resumed_by(op)
     }
 
-    // The normal world is blocked, and a preempted partition goes on.
+    // Blocks the normal world, and lets a preempted partition go on.
     pub(crate) fn resume(&mut self, partition: EndpointId)
         requires normal { self.old.state.runner ≡ 0 }
         requires goes { MayGoOn (schedule_of self.old.state) partition.0 }
@@ -62,7 +63,7 @@ impl<M: PhysMem + Drop, T: Translations + Drop, S: Store> Machine<M, T, S> {
         self.switch(Status::Blocked, partition);
     }
 
-    // What holds of every machine.
+    // States what holds of every machine.
     #[inline(always)]
     pub(crate) fn holds(&self)
         ensures { IsMachine self.now }
@@ -70,7 +71,7 @@ impl<M: PhysMem + Drop, T: Translations + Drop, S: Store> Machine<M, T, S> {
         self.manager.holds();
     }
 
-    // The runner stops in this status with the work that it has, and an endpoint goes on with its own.
+    // Stops the runner in this status with the work that it has. Lets an endpoint go on with its own work.
     pub(crate) fn switch(&mut self, status: Status, endpoint: EndpointId)
         requires stops { MayStop (schedule_of self.old.state) status }
         requires goes { MayGoOn (schedule_of self.old.state) endpoint.0 }
@@ -80,7 +81,7 @@ impl<M: PhysMem + Drop, T: Translations + Drop, S: Store> Machine<M, T, S> {
     }
 }
 
-// What the normal world sees of an interrupt that preempted a partition.
+// Returns the outcome that the normal world sees of an interrupt that preempted a partition.
 fn interrupted(partition: EndpointId) -> Outcome
     ensures { result ≡ Outcome.Regs (record { 0 = 0 }) (encode (scheduled FFA_INTERRUPT partition.0)) }
 {

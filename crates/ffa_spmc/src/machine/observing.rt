@@ -1,5 +1,5 @@
 // SPDX-License-Identifier: MIT OR Apache-2.0
-//! What an operation reads of its runner's TX, while other processors of the runner may write there.
+//! Reads of the runner's TX, to which other processors of the runner may write during the operation.
 ghost use Rattle.std.specs.Prelude.{ℕ, true, false, ◌≡◌, ◌+◌, ◌≤◌, IfSome, IsSome, length};
 ghost use Rattle.ffa_model.specs.declared.limits.TheConstants.{MOST_BUFFER_PAGES};
 ghost use Rattle.ffa_model.specs.State.{page_at};
@@ -17,8 +17,8 @@ use ffa_physmem::Observed;
 use ffa_tlb::Translations;
 
 impl<M: Observed + Drop, T: Translations + Drop, S: Store> Machine<M, T, S> {
-    // Reads at once what an operation reads of its runner's TX, where others may write there, and returns the pages, which are the
-    // runner's own.
+    // Reads at once the bytes that an operation uses in its runner's TX, if others may write there. Returns their
+    // pages, which are the runner's own.
     #[inline(always)]
     pub(crate) fn begin_reading(&mut self, op: &Op) -> Option<Run>
         requires free { HasNoCopies self.old.past }
@@ -39,7 +39,7 @@ impl<M: Observed + Drop, T: Translations + Drop, S: Store> Machine<M, T, S> {
         Some(front.pages)
     }
 
-    // Reads the first bytes of pages that are none of the tables' at once.
+    // Reads at once the first bytes of pages that are not pages of the tables.
     fn read_front(&mut self, front: Front)
         requires within { front.pages.first.0 + front.pages.count ≤ length self.old.ram.pages }
         requires few { front.pages.count ≤ MOST_BUFFER_PAGES }
@@ -49,14 +49,14 @@ impl<M: Observed + Drop, T: Translations + Drop, S: Store> Machine<M, T, S> {
         ensures memory { M.is_alone ≡ true → memory_in self.new ≡ memory_in self.old }
         ensures same { M.is_alone ≡ true → HaveInFront front.pages front.bytes self.old.state self.new.state }
     {
-        // Proof step: the state is sound, and the tables give its access.
+        // Proof step: the state is sound, and the tables grant its access.
         self.manager.holds();
         self.manager.begin_reading(front);
-        // Proof step: so it is afterwards.
+        // Proof step: this holds afterwards too.
         self.manager.holds();
     }
 
-    // Ends that, if pages were read.
+    // Ends the reading of these pages, if pages were read.
     #[inline(always)]
     pub(crate) fn end_reading(&mut self, read: Option<Run>)
         requires within { IfSome read (λ run. run.first.0 + run.count ≤ length self.old.ram.pages) }
@@ -68,10 +68,10 @@ impl<M: Observed + Drop, T: Translations + Drop, S: Store> Machine<M, T, S> {
         let Some(run) = read else {
             return;
         };
-        // Proof step: the state is sound, and the tables give its access.
+        // Proof step: the state is sound, and the tables grant its access.
         self.manager.holds();
         self.manager.end_reading(run);
-        // Proof step: so it is afterwards.
+        // Proof step: this holds afterwards too.
         self.manager.holds();
     }
 }

@@ -9,9 +9,9 @@ use ffa_physmem::PhysMem;
 use ffa_tlb::Translations;
 
 impl<M: PhysMem + Drop, T: Translations + Drop, S: Store> Machine<M, T, S> {
-    /// All parts, to be read: for `ffa_reasons`, which tells why operations are refused. What holds of them holds of every machine,
-    /// and the state is what they mean.
-    // The machine lends its parts, so that a crate above it can find a reason. An audit of the operations need not
+    /// Lends all parts of the machine to be read. `ffa_reasons` uses them to explain why operations are refused. The
+    /// parts keep the invariant of every machine, and they represent its state.
+    // The machine lends its parts, so that a crate above it can find a reason. An auditor of the operations need not
     // read that crate. Only code that needs private parts of a lower crate remains there.
     pub fn parts(&self) -> Parts<'_, M, S>
         ensures { AreParts (lent_parts M.ram result) self.now.state }

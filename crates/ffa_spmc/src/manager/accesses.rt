@@ -1,5 +1,5 @@
 // SPDX-License-Identifier: MIT OR Apache-2.0
-//! The runner's loads, stores and fetches, by what the walk of their address answered.
+//! The runner's loads, stores and fetches, by the results of their walks.
 ghost use Rattle.std.specs.Prelude.{true, ◌≡◌};
 ghost use Rattle.std.specs.Option.{option_map};
 ghost use Rattle.ffa_model.specs.declared.endpoint.PageNo.{PageNo};
@@ -16,7 +16,7 @@ use ffa_model::{FaultKind, Leaf, Outcome, PageNo, Size};
 use ffa_physmem::PhysMem;
 
 impl<M: PhysMem + Drop, S: Store> Manager<M, S> {
-    // What the walk of an address by the runner's table answers.
+    // Returns the result of an address's walk by the runner's table.
     #[inline(always)]
     pub(crate) fn translate(&self, addr: u64) -> Result<Leaf, FaultKind>
         ensures { result ≡ walk_of self.now.ram self.now.state self.now.state.runner addr }
@@ -24,7 +24,7 @@ impl<M: PhysMem + Drop, S: Store> Manager<M, S> {
         ffa_walker::translate(&self.ram, self.root_at(self.runner().place()), addr)
     }
 
-    // The page of an address, counted from RAM's first: none below RAM, and none from 2^32 on.
+    // Returns the page of an address, counted from RAM's first page. Returns `None` below RAM, and from 2^32 on.
     pub(crate) fn page_of(&self, addr: u64) -> Option<PageNo>
         ensures { option_map (λ (page : PageNo). page.0) result ≡ memory.page_of_address self.now.state addr }
     {
@@ -36,7 +36,7 @@ impl<M: PhysMem + Drop, S: Store> Manager<M, S> {
         }
     }
 
-    // A load of the runner, where the walk of its address answered this.
+    // Does a load of the runner with this result of the address's walk.
     #[inline(always)]
     pub(crate) fn load(&self, walked: Result<Leaf, FaultKind>, addr: u64, size: Size) -> Outcome
         requires { walked ≡ walk_of self.now.ram self.now.state self.now.state.runner addr }
@@ -48,7 +48,7 @@ impl<M: PhysMem + Drop, S: Store> Manager<M, S> {
         }
     }
 
-    // A fetch, alike.
+    // Does a fetch of the runner with this result of the address's walk.
     pub(crate) fn fetch(&self, walked: Result<Leaf, FaultKind>, addr: u64) -> Outcome
         requires { walked ≡ walk_of self.now.ram self.now.state self.now.state.runner addr }
         ensures { result ≡ (memory.fetch self.now.state addr).outcome }
@@ -59,7 +59,7 @@ impl<M: PhysMem + Drop, S: Store> Manager<M, S> {
         }
     }
 
-    // A store, alike.
+    // Does a store of the runner with this result of the address's walk.
     #[inline(always)]
     pub(crate) fn store(
         &mut self,

@@ -17,7 +17,7 @@ use crate::storage::Store;
 use ffa_model::{Refusal, Reply};
 use ffa_physmem::PhysMem;
 
-// Whether a request for partition information asks for the count alone.
+// Whether a request for partition information wants only the count.
 fn is_count_alone(flags: u32) -> bool
     ensures { result ≡ is_count_alone flags }
 {
@@ -25,7 +25,7 @@ fn is_count_alone(flags: u32) -> bool
 }
 
 impl<M: PhysMem + Drop, S: Store> Manager<M, S> {
-    // FFA_RX_RELEASE of the runner.
+    // Serves FFA_RX_RELEASE of the runner.
     pub(super) fn rx_release(&mut self) -> Reply
         ensures { IsReplied self.old self.new (rx_release self.old.state) no_work result }
     {
@@ -33,7 +33,7 @@ impl<M: PhysMem + Drop, S: Store> Manager<M, S> {
         done_or_error(self.kept.buffers.rx_release(runner))
     }
 
-    // FFA_RXTX_MAP of the runner.
+    // Serves FFA_RXTX_MAP of the runner.
     pub(super) fn rxtx_map(&mut self, tx: u64, rx: u64, pages: u32) -> Reply
         ensures { IsReplied self.old self.new (rxtx_map self.old.state tx rx pages) no_work result }
     {
@@ -47,7 +47,7 @@ impl<M: PhysMem + Drop, S: Store> Manager<M, S> {
         )
     }
 
-    // FFA_RXTX_UNMAP of the runner.
+    // Serves FFA_RXTX_UNMAP of the runner.
     pub(super) fn rxtx_unmap(&mut self, endpoint: u32) -> Reply
         ensures { IsReplied self.old self.new (rxtx_unmap self.old.state endpoint) no_work result }
     {
@@ -55,7 +55,7 @@ impl<M: PhysMem + Drop, S: Store> Manager<M, S> {
         done_or_error(self.kept.buffers.unmap(runner, endpoint))
     }
 
-    // FFA_PARTITION_INFO_GET of the runner.
+    // Serves FFA_PARTITION_INFO_GET of the runner.
     pub(super) fn partition_info_get(&mut self, uuid: [u32; 4], flags: u32) -> Reply
         ensures { IsReplied self.old self.new (info_get self.old.state uuid flags) (loans_of 1) result }
     {
@@ -65,7 +65,7 @@ impl<M: PhysMem + Drop, S: Store> Manager<M, S> {
         }
     }
 
-    // The checks of FFA_PARTITION_INFO_GET of the runner in order: the first that fails.
+    // Makes the checks of FFA_PARTITION_INFO_GET of the runner in order. Returns the first check that fails.
     pub(super) fn check_info(&self, uuid: [u32; 4], flags: u32) -> Result<(), Refusal>
         ensures { result_err result ≡ first_refusal (info_guards self.now.state (uuid_bytes uuid) flags) }
     {
@@ -85,7 +85,8 @@ impl<M: PhysMem + Drop, S: Store> Manager<M, S> {
         Ok(())
     }
 
-    // Gives the runner partition information: its RX has the descriptors, unless it asked for the count alone.
+    // Returns the reply to a request of the runner for partition information. Unless the runner wants only the count,
+    // it writes the descriptors to the runner's RX.
     fn inform(&mut self, uuid: [u32; 4], flags: u32) -> Reply
         requires { first_refusal (info_guards self.old.state (uuid_bytes uuid) flags) ≡ None }
         ensures state { self.new.state ≡ informed self.old.state (uuid_bytes uuid) flags }

@@ -1,5 +1,5 @@
 // SPDX-License-Identifier: MIT OR Apache-2.0
-//! What a certificate says of the manager's pages and tables.
+//! The manager's data on pages and tables that a certificate is about.
 ghost use Rattle.std.specs.Prelude.{true, ◌≡◌, ◌<◌, ◌↔◌, All, IsTrue, length};
 ghost use Rattle.ffa_model.specs.Access.{handle_at};
 ghost use Rattle.ffa_model.specs.Agreement.{root, roots_of};
@@ -14,7 +14,8 @@ use ffa_model::{CertRun, MOST_ENDPOINTS, PageNo};
 use ffa_physmem::PhysMem;
 
 impl<M: PhysMem + Drop, S: Store> Manager<M, S> {
-    // The handle of the open transaction in which a page of the RAM stands.
+    // Returns the handle of the open transaction that has a page of the RAM. Returns `None` if no open transaction has
+    // it.
     pub(crate) fn handle_at(&self, page: PageNo) -> Option<u64>
         requires { page.0 < length self.now.state.pages }
         ensures { result ≡ handle_at self.now.state page.0 }
@@ -22,7 +23,7 @@ impl<M: PhysMem + Drop, S: Store> Manager<M, S> {
         self.kept.pool.handle_at(&self.kept.pages, page)
     }
 
-    // The address of the level 1 table of the endpoint at a place.
+    // Returns the address of the level 1 table of the endpoint at a place.
     pub(crate) fn root_at(&self, place: usize) -> u32
         requires { place < length self.now.state.parties }
         ensures value { result ≡ root self.now.state place }
@@ -31,7 +32,7 @@ impl<M: PhysMem + Drop, S: Store> Manager<M, S> {
         self.kept.manifest.root(place)
     }
 
-    // The same of each endpoint.
+    // Returns the address of the level 1 table of each endpoint.
     fn roots(&self) -> ArrayVec<u32, MOST_ENDPOINTS>
         ensures value { result.items ≡ roots_of self.now.state }
         ensures pages { All (λ root. is_page_address self.now.ram root ≡ true) result.items }
@@ -43,7 +44,7 @@ impl<M: PhysMem + Drop, S: Store> Manager<M, S> {
         roots
     }
 
-    // Whether the tables give what runs of pages say. They give the state's own certificate.
+    // Whether the tables grant exactly what these runs of pages say. It is true for the state's own certificate.
     pub(crate) fn audit(&self, runs: &[CertRun]) -> bool
         ensures certified { IsTrue result ↔ IsCertified self.now.ram (roots_of self.now.state) runs.now }
         ensures own { runs.now ≡ certificate self.now.state → IsTrue result }

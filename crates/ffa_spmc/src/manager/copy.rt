@@ -1,5 +1,5 @@
 // SPDX-License-Identifier: MIT OR Apache-2.0
-//! The same manager once more, in other RAM and other room.
+//! Copies of a manager, in other RAM and other storage.
 ghost use Rattle.std.specs.Prelude.{◌≡◌, ◌*◌, length};
 ghost use Rattle.ffa_spmc.specs.Mixtures.{TablesRest};
 
@@ -10,7 +10,8 @@ use ffa_physmem::PhysMem;
 use ffa_stage2::settle_tables;
 
 impl<M: PhysMem + Drop, S: Store> Manager<M, S> {
-    // The same manager in this RAM, of which it writes every byte, and in this room. The tables are settled, as behind a boot.
+    // Returns a copy of this manager in this RAM and this storage. It writes every byte of the RAM. The tables are
+    // settled, as after a boot.
     #[inline(always)]
     pub(crate) fn copy_in<N: PhysMem + Drop, R: Store>(
         &self,
@@ -35,7 +36,7 @@ impl<M: PhysMem + Drop, S: Store> Manager<M, S> {
         }
     }
 
-    // The manifest.
+    // Returns the manifest.
     pub(crate) fn manifest(&self) -> &Manifest
         ensures base { result.now.ram_base.0 ≡ self.now.ram.base }
         ensures pages { 512 * result.now.ram_blocks ≡ length self.now.ram.pages }
@@ -45,7 +46,7 @@ impl<M: PhysMem + Drop, S: Store> Manager<M, S> {
     }
 }
 
-// Writes every byte of a RAM to another one, which stands where it does and has as many pages.
+// Copies every byte of a RAM to another RAM, which has the same address and the same number of pages.
 #[inline(never)]
 fn copy_pages<M: PhysMem, N: PhysMem>(from: &M, to: &mut N)
     requires base { (N.ram to.old).base ≡ (M.ram from.now).base }

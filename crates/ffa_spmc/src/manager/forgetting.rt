@@ -1,5 +1,5 @@
 // SPDX-License-Identifier: MIT OR Apache-2.0
-//! What the cache forgets after a call.
+//! The leaves that the cache forgets after a call.
 ghost use Rattle.std.specs.Prelude.{◌≡◌, ℕ, None, IfSome, if◌then◌else◌};
 ghost use Rattle.ffa_memshare.specs.Ranges.{ArePlaced, IsPlaced, in_range, in_ranges};
 ghost use Rattle.ffa_model.specs.State.{State};
@@ -13,7 +13,7 @@ use ffa_memshare::{News, PageRanges, Value, first_page};
 use ffa_model::{Address, EndpointId, ErrorCode, PageNo, Range, Reply};
 use ffa_tlb::Translations;
 
-// Forgets what is held for an endpoint and the pages of a range in the RAM at an address.
+// Forgets the leaves that the cache holds for an endpoint and the pages of a range. RAM begins at `base`.
 fn forget_range<T: Translations>(cache: &mut T, base: Address, endpoint: EndpointId, range: &Range)
     requires { IsPlaced base.0 most_pages range.now }
     ensures { AreOut (T.entries cache.old) (T.entries cache.new) endpoint.0 (in_range base.0 range.now) }
@@ -24,7 +24,7 @@ fn forget_range<T: Translations>(cache: &mut T, base: Address, endpoint: Endpoin
     }
 }
 
-// The same of these ranges.
+// Forgets the leaves that the cache holds for an endpoint and the pages of these ranges. RAM begins at `base`.
 fn forget_ranges<T: Translations>(
     cache: &mut T,
     base: Address,
@@ -39,8 +39,8 @@ fn forget_ranges<T: Translations>(
     }
 }
 
-// Returns the reply to a call on memory. If the call was done, the cache forgets the endpoint and the pages between which
-// the access changed, as the news say.
+// Returns the reply to a call on memory. If the call succeeded, the cache forgets the leaves of the endpoint and the
+// pages that the news report: its access to them changed.
 #[inline(always)]
 pub(super) fn conclude<T: Translations>(
     cache: &mut T,

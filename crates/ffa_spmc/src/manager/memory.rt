@@ -1,6 +1,6 @@
 // SPDX-License-Identifier: MIT OR Apache-2.0
-//! The calls on memory. Each stands alone, so that other calls have no room for it. The pool says in the news whose
-//! access to which pages changed, and the cache forgets what the news say.
+//! The calls on memory. Each is a function of its own, so that other calls need no stack for it. The pool writes the
+//! access that changed to the news, and the cache forgets what the news report.
 ghost use Rattle.std.specs.Prelude.{◌≡◌, false, true};
 ghost use Rattle.std.specs.Option.{option_or};
 ghost use Rattle.ffa_model.specs.HypervisorRetrieve.{asks_back, hypervisor_retrieve, memory_retrieve};
@@ -23,7 +23,7 @@ use ffa_physmem::PhysMem;
 use ffa_tlb::Translations;
 
 impl<M: PhysMem + Drop, S: Store> Manager<M, S> {
-    // FFA_MEM_DONATE, FFA_MEM_LEND or FFA_MEM_SHARE of the runner.
+    // Serves FFA_MEM_DONATE, FFA_MEM_LEND or FFA_MEM_SHARE of the runner.
     #[inline(never)]
     pub(super) fn mem_send<T: Translations>(
         &mut self,
@@ -42,7 +42,7 @@ impl<M: PhysMem + Drop, S: Store> Manager<M, S> {
         conclude(cache, base, done, news)
     }
 
-    // The same, but the cache keeps what it had.
+    // Serves FFA_MEM_DONATE, FFA_MEM_LEND or FFA_MEM_SHARE of the runner. The cache keeps what it had.
     #[inline(always)]
     fn pool_send(
         &mut self,
@@ -76,7 +76,7 @@ impl<M: PhysMem + Drop, S: Store> Manager<M, S> {
         )
     }
 
-    // FFA_MEM_RETRIEVE_REQ of the runner.
+    // Serves FFA_MEM_RETRIEVE_REQ of the runner.
     #[inline(never)]
     pub(super) fn mem_retrieve<T: Translations>(
         &mut self,
@@ -96,7 +96,8 @@ impl<M: PhysMem + Drop, S: Store> Manager<M, S> {
         conclude(cache, base, done, news)
     }
 
-    // Whether the runner asks, as a hypervisor, for what it sent.
+    // Whether FFA_MEM_RETRIEVE_REQ with these registers is a hypervisor's request: the runner wants the description of
+    // what it sent itself.
     pub(super) fn asks_back(&self, transfer: Transfer) -> bool
         ensures { result ≡ asks_back self.now.state transfer }
     {
@@ -105,7 +106,7 @@ impl<M: PhysMem + Drop, S: Store> Manager<M, S> {
         call.asks_back(&self.ram, &self.kept.buffers, runner)
     }
 
-    // The call in these registers, whose descriptor stands in TX of the runner.
+    // Returns the call with these registers, whose descriptor is in the runner's TX.
     #[inline(always)]
     pub(super) fn descriptor_call(&self, transfer: Transfer) -> DescriptorCall
         ensures { result ≡ record {
@@ -121,7 +122,8 @@ impl<M: PhysMem + Drop, S: Store> Manager<M, S> {
         }
     }
 
-    // A hypervisor's retrieve: RX of the runner tells what it sent.
+    // Serves a hypervisor's FFA_MEM_RETRIEVE_REQ. If nothing refuses the call, it writes the description of the
+    // runner's own transaction to the runner's RX.
     #[inline(never)]
     fn read_back(&mut self, transfer: Transfer) -> Reply
         requires { asks_back self.old.state transfer ≡ true }
@@ -144,7 +146,7 @@ impl<M: PhysMem + Drop, S: Store> Manager<M, S> {
         }
     }
 
-    // The same of a receiver, but the cache keeps what it had.
+    // Serves FFA_MEM_RETRIEVE_REQ of a receiver. The cache keeps what it had.
     #[inline(always)]
     fn pool_retrieve(&mut self, transfer: Transfer, news: &mut News) -> Result<Value, ErrorCode>
         requires { asks_back self.old.state transfer ≡ false }
@@ -173,7 +175,7 @@ impl<M: PhysMem + Drop, S: Store> Manager<M, S> {
         )
     }
 
-    // FFA_MEM_RELINQUISH of the runner.
+    // Serves FFA_MEM_RELINQUISH of the runner.
     #[inline(never)]
     pub(super) fn mem_relinquish<T: Translations>(
         &mut self,
@@ -190,7 +192,7 @@ impl<M: PhysMem + Drop, S: Store> Manager<M, S> {
         conclude(cache, base, done, news)
     }
 
-    // The same, but the cache keeps what it had.
+    // Serves FFA_MEM_RELINQUISH of the runner. The cache keeps what it had.
     #[inline(always)]
     fn pool_relinquish(&mut self, news: &mut News) -> Result<Value, ErrorCode>
         ensures done { let most = relinquish_work self.old.state (relinquish_read self.old.state) in
@@ -210,7 +212,7 @@ impl<M: PhysMem + Drop, S: Store> Manager<M, S> {
         )
     }
 
-    // FFA_MEM_RECLAIM of the runner.
+    // Serves FFA_MEM_RECLAIM of the runner.
     #[inline(never)]
     pub(super) fn mem_reclaim<T: Translations>(
         &mut self,
@@ -229,7 +231,7 @@ impl<M: PhysMem + Drop, S: Store> Manager<M, S> {
         conclude(cache, base, done, news)
     }
 
-    // The same, but the cache keeps what it had.
+    // Serves FFA_MEM_RECLAIM of the runner. The cache keeps what it had.
     #[inline(always)]
     fn pool_reclaim(
         &mut self,

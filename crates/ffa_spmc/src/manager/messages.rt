@@ -1,5 +1,5 @@
 // SPDX-License-Identifier: MIT OR Apache-2.0
-//! The calls on run states, and messages.
+//! The calls on run states, and the calls that send messages.
 ghost use Rattle.std.specs.Prelude.{false, true, ◌≡◌, ◌==◌};
 ghost use Rattle.ffa_model.specs.declared.function.TheConstants.{FFA_ERROR};
 ghost use Rattle.ffa_model.specs.Messages.{msg_send2};
@@ -18,14 +18,15 @@ use ffa_physmem::PhysMem;
 use ffa_schedule::keeps_rx;
 
 impl<M: PhysMem + Drop, S: Store> Manager<M, S> {
-    // FFA_RUN of the runner.
+    // Serves FFA_RUN of the runner.
     pub(super) fn run_partition(&mut self, target: EndpointId, context: u16) -> Reply
         ensures { IsReplied self.old self.new (run_partition self.old.state target.0 context) no_work result }
     {
         reply_or_error(self.kept.chain.run_partition(target, context))
     }
 
-    // FFA_MSG_WAIT of the runner, whose RX is empty then, unless the flags keep it as it is.
+    // Serves FFA_MSG_WAIT of the runner. If the call succeeds, the runner's RX is empty after it, unless the flags keep
+    // RX as it is.
     pub(super) fn msg_wait(&mut self, flags: u32) -> Reply
         ensures { IsReplied self.old self.new (msg_wait self.old.state flags) no_work result }
     {
@@ -36,7 +37,7 @@ impl<M: PhysMem + Drop, S: Store> Manager<M, S> {
         }
     }
 
-    // The same, where the flags keep RX.
+    // Serves FFA_MSG_WAIT if the flags keep RX.
     fn wait_with_rx(&mut self, _flags: u32) -> Reply
         requires { keeps_rx (version_of self.old.state self.old.state.runner) _flags ≡ true }
         ensures { IsReplied self.old self.new (msg_wait self.old.state _flags) no_work result }
@@ -44,7 +45,7 @@ impl<M: PhysMem + Drop, S: Store> Manager<M, S> {
         reply_or_error(self.kept.chain.wait())
     }
 
-    // The same, where they don't.
+    // Serves FFA_MSG_WAIT if the flags do not keep RX.
     fn wait_without_rx(&mut self, _flags: u32) -> Reply
         requires { keeps_rx (version_of self.old.state self.old.state.runner) _flags ≡ false }
         ensures { IsReplied self.old self.new (msg_wait self.old.state _flags) no_work result }
@@ -57,14 +58,14 @@ impl<M: PhysMem + Drop, S: Store> Manager<M, S> {
         reply_or_error(result)
     }
 
-    // FFA_YIELD of the runner.
+    // Serves FFA_YIELD of the runner.
     pub(super) fn yield_now(&mut self) -> Reply
         ensures { IsReplied self.old self.new (yield_now self.old.state) no_work result }
     {
         reply_or_error(self.kept.chain.yield_now())
     }
 
-    // FFA_MSG_SEND_DIRECT_REQ of the runner.
+    // Serves FFA_MSG_SEND_DIRECT_REQ of the runner.
     pub(super) fn direct_request(&mut self, message: &DirectMessage) -> Reply
         requires { (message.now.function == FFA_ERROR) ≡ false }
         ensures { IsReplied self.old self.new (direct_request self.old.state message.now) no_work result }
@@ -73,7 +74,7 @@ impl<M: PhysMem + Drop, S: Store> Manager<M, S> {
         message_or_error(message, answer)
     }
 
-    // FFA_MSG_SEND_DIRECT_RESP of the runner.
+    // Serves FFA_MSG_SEND_DIRECT_RESP of the runner.
     pub(super) fn direct_response(&mut self, message: &DirectMessage) -> Reply
         requires { (message.now.function == FFA_ERROR) ≡ false }
         ensures { IsReplied self.old self.new (direct_response self.old.state message.now) no_work result }
@@ -81,7 +82,8 @@ impl<M: PhysMem + Drop, S: Store> Manager<M, S> {
         message_or_error(message, direct_resp(&mut self.kept.chain, message))
     }
 
-    // FFA_MSG_SEND2 of the runner. The receiver is told of a message by a bit of the manager's.
+    // Serves FFA_MSG_SEND2 of the runner. The manager sets its own bit of the receiver, so that the receiver learns of
+    // the message.
     pub(super) fn msg_send2(&mut self) -> Reply
         ensures { IsReplied self.old self.new (msg_send2 self.old.state) (loans_of (message_pages self.old.state)) result }
     {

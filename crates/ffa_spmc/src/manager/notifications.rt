@@ -13,14 +13,14 @@ use ffa_model::{EndpointId, NotificationBits, Reply};
 use ffa_physmem::PhysMem;
 
 impl<M: PhysMem + Drop, S: Store> Manager<M, S> {
-    // Whether a bit of an endpoint is pending. None is of an endpoint that isn't there.
+    // Whether a bit of an endpoint is pending. It is false if the machine has no such endpoint.
     pub(crate) fn has_pending(&self, endpoint: EndpointId) -> bool
         ensures { result ≡ has_pending (notifications_of self.now.state) endpoint.0 }
     {
         endpoint.is_among(self.endpoints()) && self.kept.bitmaps.has_pending(endpoint)
     }
 
-    // Whether the normal world would be told of an endpoint by FFA_NOTIFICATION_INFO_GET.
+    // Whether FFA_NOTIFICATION_INFO_GET would report an endpoint to the normal world.
     pub(crate) fn has_notices(&self) -> bool
         ensures { result ≡ has_notices self.now.state }
     {
@@ -29,7 +29,7 @@ impl<M: PhysMem + Drop, S: Store> Manager<M, S> {
         bitmaps.check_info(ffa, EndpointId::NORMAL_WORLD).is_ok()
     }
 
-    // FFA_NOTIFICATION_BITMAP_CREATE of the runner.
+    // Serves FFA_NOTIFICATION_BITMAP_CREATE of the runner.
     pub(super) fn bitmap_create(&mut self, endpoint: u32, contexts: u32) -> Reply
         ensures { IsReplied self.old self.new (bitmap_create self.old.state endpoint contexts) no_work result }
     {
@@ -38,7 +38,7 @@ impl<M: PhysMem + Drop, S: Store> Manager<M, S> {
         done_or_error(self.kept.bitmaps.create(ffa, runner, endpoint, contexts))
     }
 
-    // FFA_NOTIFICATION_BITMAP_DESTROY of the runner.
+    // Serves FFA_NOTIFICATION_BITMAP_DESTROY of the runner.
     pub(super) fn bitmap_destroy(&mut self, endpoint: u32) -> Reply
         ensures { IsReplied self.old self.new (bitmap_destroy self.old.state endpoint) no_work result }
     {
@@ -46,7 +46,7 @@ impl<M: PhysMem + Drop, S: Store> Manager<M, S> {
         done_or_error(self.kept.bitmaps.destroy(runner, endpoint))
     }
 
-    // FFA_NOTIFICATION_BIND of the runner.
+    // Serves FFA_NOTIFICATION_BIND of the runner.
     pub(super) fn notification_bind(&mut self, bits: &NotificationBits) -> Reply
         ensures { IsReplied self.old self.new (notification_bind self.old.state bits.now) no_work result }
     {
@@ -54,7 +54,7 @@ impl<M: PhysMem + Drop, S: Store> Manager<M, S> {
         done_or_error(self.kept.bitmaps.bind(runner, bits))
     }
 
-    // FFA_NOTIFICATION_UNBIND of the runner.
+    // Serves FFA_NOTIFICATION_UNBIND of the runner.
     pub(super) fn notification_unbind(&mut self, bits: &NotificationBits) -> Reply
         ensures { IsReplied self.old self.new (notification_unbind self.old.state bits.now) no_work result }
     {
@@ -62,7 +62,7 @@ impl<M: PhysMem + Drop, S: Store> Manager<M, S> {
         done_or_error(self.kept.bitmaps.unbind(runner, bits))
     }
 
-    // FFA_NOTIFICATION_SET of the runner.
+    // Serves FFA_NOTIFICATION_SET of the runner.
     pub(super) fn notification_set(&mut self, bits: &NotificationBits) -> Reply
         ensures { IsReplied self.old self.new (notification_set self.old.state bits.now) no_work result }
     {
@@ -70,7 +70,7 @@ impl<M: PhysMem + Drop, S: Store> Manager<M, S> {
         done_or_error(self.kept.bitmaps.set(runner, bits))
     }
 
-    // FFA_NOTIFICATION_GET of the runner.
+    // Serves FFA_NOTIFICATION_GET of the runner.
     pub(super) fn notification_get(
         &mut self,
         receiver: EndpointId,
@@ -84,7 +84,7 @@ impl<M: PhysMem + Drop, S: Store> Manager<M, S> {
         reply_or_error(self.kept.bitmaps.get(ffa, runner, receiver, context, flags))
     }
 
-    // FFA_NOTIFICATION_INFO_GET of the runner.
+    // Serves FFA_NOTIFICATION_INFO_GET of the runner.
     pub(super) fn notification_info_get(&mut self, is_wide: bool) -> Reply
         ensures { IsReplied self.old self.new (notification_info_get self.old.state is_wide) no_work result }
     {

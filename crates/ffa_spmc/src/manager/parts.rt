@@ -8,7 +8,7 @@ use crate::storage::Store;
 use ffa_physmem::PhysMem;
 
 impl<M: PhysMem + Drop, S: Store> Manager<M, S> {
-    // What the manager keeps, and what holds of it.
+    // Lends the manager's parts, which keep the invariant of every manager.
     pub(crate) fn parts(&self) -> Parts<'_, M, S>
         ensures { AreParts (lent_parts M.ram result) self.now.state }
     {

@@ -22,10 +22,10 @@ use ffa_model::function::{
 use ffa_model::{Call, Op, PageNo};
 use ffa_physmem::{Observed, PAGE_SIZE, PhysMem};
 
-// The bytes that the descriptor of FFA_MEM_RELINQUISH has.
+// The number of bytes of FFA_MEM_RELINQUISH's descriptor.
 const RELINQUISH_BYTES: usize = 18;
 
-// Whether a call reads TX, by its number: where it doesn't, its arguments aren't looked at here.
+// Whether the call with this function identifier reads TX. If it does not, this module does not look at its arguments.
 fn reads_tx(number: u32) -> bool
     ensures { result ≡ reads_tx number }
 {
@@ -44,7 +44,7 @@ fn reads_tx(number: u32) -> bool
     )
 }
 
-// How many bytes of a TX of so many a call reads.
+// Returns the number of bytes that a call reads of a TX with `room` bytes.
 fn bytes_read(call: &Call, room: usize) -> usize
     ensures { result ≡ bytes_read call.now room }
 {
@@ -59,7 +59,7 @@ fn bytes_read(call: &Call, room: usize) -> usize
     }
 }
 
-// How many of these pages hold so many bytes.
+// Returns how many of these pages hold this number of bytes.
 fn pages_holding(pages: u32, bytes: usize) -> u32
     ensures { result ≡ pages_holding pages bytes }
 {
@@ -71,7 +71,7 @@ fn pages_holding(pages: u32, bytes: usize) -> u32
     }
 }
 
-// What was read of a page are bytes.
+// Proves that a page holds bytes.
 pub(crate) fn holds_bytes(page: &[u8; 4096])
     ensures { are_bytes page.now }
 {
@@ -81,7 +81,7 @@ pub(crate) fn holds_bytes(page: &[u8; 4096])
     }
 }
 
-// So it is of each of these pages.
+// Proves that each of these pages holds bytes.
 fn hold_bytes<M: PhysMem>(ram: &M, run: Run)
     requires { run.first.0 + run.count ≤ length (M.ram ram.now).pages }
     ensures { (p : ℕ) → is_in run p ≡ true → are_bytes (page_of (M.ram ram.now) p) }
@@ -106,7 +106,7 @@ fn observe_in<M: Observed>(ram: &mut M, front: Front)
     ensures places { (M.past ram.new).site.places ≡ (M.past ram.old).site.places }
     ensures only { (p : ℕ) → is_copied (M.past ram.new) p ≡ true → is_in front.pages p ≡ true }
     ensures memory { M.is_alone ≡ true → M.memory ram.new ≡ M.memory ram.old }
-    // Where nobody else writes these bytes are what they were.
+    // If nobody else writes, these bytes are as before.
     ensures same { M.is_alone ≡ true → (p : ℕ) → is_in front.pages p ≡ true
         → AgreeInFirst front.bytes front.pages.first.0 p (page_of (M.ram ram.new) p) (page_of (M.ram ram.old) p) }
 {
@@ -114,7 +114,7 @@ fn observe_in<M: Observed>(ram: &mut M, front: Front)
     hold_bytes(ram, front.pages);
 }
 
-// Ends that.
+// Ends the reading of these pages.
 fn release_in<M: Observed>(ram: &mut M, run: Run)
     requires within { run.first.0 + run.count ≤ length (M.ram ram.old).pages }
     requires only { (p : ℕ) → is_copied (M.past ram.old) p ≡ true → is_in run p ≡ true }
@@ -132,7 +132,7 @@ fn release_in<M: Observed>(ram: &mut M, run: Run)
 }
 
 impl<M: PhysMem + Drop, S: Store> Manager<M, S> {
-    // What of its TX an operation of the runner reads, if it reads any: its pages are the runner's own.
+    // Returns the part of the runner's TX that an operation reads, if it reads any. Its pages are the runner's own.
     pub(crate) fn front_read(&self, op: &Op) -> Option<Front>
         ensures pages { option_map (λ front. front.pages) result ≡ pages_read self.now.state op.now }
         ensures bytes { IfSome result (λ front. front.bytes ≡ bytes_read_by self.now.state op.now) }
@@ -150,7 +150,7 @@ impl<M: PhysMem + Drop, S: Store> Manager<M, S> {
         self.front_of_tx(x)
     }
 
-    // The same of a call that may read TX.
+    // Returns the part of the runner's TX that a call reads, if it reads any.
     #[inline(never)]
     fn front_of_tx(&self, x: &[u64; 8]) -> Option<Front>
         ensures pages { option_map (λ front. front.pages) result ≡ pages_read self.now.state (Op.Call x.now) }
@@ -177,7 +177,7 @@ impl<M: PhysMem + Drop, S: Store> Manager<M, S> {
 }
 
 impl<M: Observed + Drop, S: Store> Manager<M, S> {
-    // Reads the first bytes of pages that are none of the tables' at once.
+    // Reads at once the first bytes of pages that are not pages of the tables.
     pub(crate) fn begin_reading(&mut self, front: Front)
         requires within { front.pages.first.0 + front.pages.count ≤ length self.old.ram.pages }
         requires few { front.pages.count ≤ MOST_BUFFER_PAGES }
@@ -198,7 +198,7 @@ impl<M: Observed + Drop, S: Store> Manager<M, S> {
         observe_in(&mut self.ram, front);
     }
 
-    // Ends that.
+    // Ends the reading of these pages.
     pub(crate) fn end_reading(&mut self, run: Run)
         requires within { run.first.0 + run.count ≤ length self.old.ram.pages }
         requires aside { (p : ℕ) → is_in run p ≡ true → IsNoTable self.old.state p }

@@ -1,6 +1,6 @@
 // SPDX-License-Identifier: MIT OR Apache-2.0
-//! Who runs, apart from any call: an interrupt preempts a partition, one that was goes on, and another processor does an
-//! operation.
+//! Changes of the runner apart from calls. An interrupt preempts a partition, a preempted partition goes on, and
+//! another processor does an operation.
 ghost use Rattle.std.specs.Prelude.{◌≡◌};
 ghost use Rattle.std.specs.Option.{option_map};
 ghost use Rattle.ffa_model.specs.declared.endpoint.EndpointId.{EndpointId};
@@ -16,7 +16,7 @@ use ffa_model::{EndpointId, Op, Status};
 use ffa_physmem::PhysMem;
 
 impl<M: PhysMem + Drop, S: Store> Manager<M, S> {
-    // The runner stops in this status with the work that it has, and an endpoint goes on with its own.
+    // Stops the runner in this status with the work that it has. Lets an endpoint go on with its own work.
     pub(crate) fn switch(&mut self, status: Status, endpoint: EndpointId)
         requires stops { MayStop (schedule_of self.old.state) status }
         requires goes { MayGoOn (schedule_of self.old.state) endpoint.0 }
@@ -25,7 +25,7 @@ impl<M: PhysMem + Drop, S: Store> Manager<M, S> {
         self.kept.chain.switch(status, endpoint);
     }
 
-    // The preempted partition that an operation of the runner lets go on, if it does.
+    // Returns the preempted partition that an operation of the runner lets go on, if there is one.
     pub(crate) fn resumed_by(&self, op: &Op) -> Option<EndpointId>
         ensures { option_map (λ (e : EndpointId). e.0) result ≡ resumed_by self.now.state op.now }
     {
@@ -40,7 +40,7 @@ impl<M: PhysMem + Drop, S: Store> Manager<M, S> {
         )
     }
 
-    // So of FFA_RUN, which names an endpoint and its execution context.
+    // Returns the preempted partition that FFA_RUN of this endpoint and execution context lets go on, if there is one.
     fn resumed_by_run(&self, target: EndpointId, context: u16) -> Option<EndpointId>
         ensures { option_map (λ (e : EndpointId). e.0) result
             ≡ resumed_by_call self.now.state (Call.Run target context) }

@@ -13,7 +13,7 @@ use ffa_physmem::PhysMem;
 use ffa_setup::{form_of, is_version};
 
 impl<M: PhysMem + Drop, S: Store> Manager<M, S> {
-    // FFA_VERSION of the runner.
+    // Serves FFA_VERSION of the runner.
     pub(super) fn ffa_version(&mut self, word: u32) -> Reply
         ensures { IsReplied self.old self.new (ffa_version self.old.state word) no_work result }
     {
@@ -23,7 +23,7 @@ impl<M: PhysMem + Drop, S: Store> Manager<M, S> {
         }
     }
 
-    // FFA_VERSION on a machine of FF-A 1.2, which keeps the form of the version.
+    // Serves FFA_VERSION on a machine of FF-A 1.2, which keeps the form of the version.
     fn keep_version(&mut self, word: u32) -> Reply
         requires { self.old.state.ffa ≡ V1_2 }
         ensures { IsReplied self.old self.new (ffa_version self.old.state word) no_work result }
@@ -37,7 +37,8 @@ impl<M: PhysMem + Drop, S: Store> Manager<M, S> {
         ffa_setup::answer(true)
     }
 
-    // Whether the major number is 1, and a runner with buffers names the form that it has.
+    // Whether the manager serves this version. Its major number must be 1, and a runner with buffers must name the form
+    // that it has.
     fn is_served_version(&self, word: u32, form: Version) -> bool
         requires { form ≡ form_of word }
         ensures { result ≡ is_served_version self.now.state word }

@@ -1,6 +1,6 @@
 // SPDX-License-Identifier: MIT OR Apache-2.0
-//! Commands where memory is short: each allocation of RAM, of a machine's room and of the player is refused in turn, over a
-//! heap of a fixed size. What a manifest is read with is refused by the script tests/refused-memory.
+//! Commands without enough memory. Over a heap of a fixed size, each allocation of RAM, of a machine's storage and of
+//! the player is refused in turn. The script tests/refused-memory refuses the memory with which a manifest is read.
 
 use super::{BUILT_IN, FIRST, FIRST_TEXT, KINDS, ROW, RUN, on_kind, printed, program};
 use fixtures::{InPieces, ROW_TEXT};
@@ -11,22 +11,22 @@ use std::alloc::Global;
 use std::process::Abort;
 use std::test::Fail;
 
-// What 2 MiB of RAM take: the pages, and where they are frames the list of their boxes, each of which names its place and
-// its heap.
+// The number of bytes of the pages of 2 MiB of RAM. The next constant is the number of bytes of the list of boxes, if
+// the RAM is in frames. Each box names its place and its heap.
 const PAGES: usize = 512 * 4096;
 
 const LIST: usize = 512 * 16;
 
-// What the room of a machine with 2 MiB of RAM takes: the owners of its pages, and the slots for open transactions of all endpoints
-// that there may be.
+// The number of bytes that a machine with 2 MiB of RAM stores of the owners of its pages. The next constant is the
+// number of bytes of the slots for open transactions, for the most endpoints.
 const OWNERS: usize = 512 * 4;
 
 const SLOTS: usize = 128 * 616;
 
-// What the player takes at most: the room for a line of up to 33 bytes, before it grows and after.
+// The most bytes that the player takes: the room for a line of up to 33 bytes, before and after it grows.
 const LINE: usize = 256;
 
-// The partition 8001 lends a page to 8002, which retrieves it, and asks for it once more.
+// Partition 8001 lends a page to 8002. Partition 8002 retrieves it, and then requests it again.
 const LEND: &str = "call 84000066 4001E000 4001F000 1
 call 8400006D 80020000
 call 84000066 4003E000 4003F000 1
@@ -54,7 +54,8 @@ load 4003F000 8
 call 84000074 40 40
 ";
 
-// Whether a command is done with a heap of this room. If not, there is no memory, and the text so far ends at a line.
+// Whether a command succeeds with a heap of this size. If it does not, asserts that there is no memory, and that the
+// text so far ends at a line's end.
 fn is_done(
     rt: &impl Abort,
     alloc: Global,
@@ -86,8 +87,8 @@ fn is_done(
     Ok(status == 0)
 }
 
-// On a machine of each kind: RAM is refused, or a piece of the machine's room, or each growth of the
-// room for a line, or nothing.
+// Plays on a machine of each kind. Asserts that the command has no memory for RAM or for a part of the machine's
+// storage. With a little more memory, either the room for a line cannot grow, or the command succeeds.
 fn done_or_no_memory(
     rt: &impl Abort,
     alloc: Global,
@@ -135,7 +136,7 @@ fn frames_or_no_memory(rt: HostRuntime) -> Result<(), Fail> {
     Ok(())
 }
 
-// A run with this manifest and without memory for RAM is refused with this message.
+// Asserts that a run with this manifest, and without memory for RAM, is refused with this message.
 fn assert_refused(
     rt: &impl Abort,
     alloc: Global,
@@ -158,7 +159,7 @@ fn assert_refused(
     Ok(())
 }
 
-// A manifest is refused before RAM is asked for.
+// The program refuses a manifest before it allocates RAM.
 #[test]
 fn refuses_a_manifest_without_memory_for_ram(rt: HostRuntime) -> Result<(), Fail> {
     let alloc = rt.alloc();

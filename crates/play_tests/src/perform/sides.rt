@@ -1,5 +1,6 @@
 // SPDX-License-Identifier: MIT OR Apache-2.0
-//! Comparisons whose expected text can't be read, or for which there is no memory, and a session that can't be read on.
+//! Comparisons with an expected text that cannot be read or that does not fit in memory, and a session whose trace
+//! cannot be read further.
 
 use super::{FIRST, MACHINE, TEXT, printed, program};
 use fixtures::{InPieces, ROW_TEXT};
@@ -36,7 +37,7 @@ const SESSION: Request<'static> = Request::Play(PlayOptions {
     verbose: false,
 });
 
-// How a command ended, with what it wrote.
+// The end of a command: its status, and the texts that it wrote.
 #[derive(Drop)]
 struct Ended {
     status: u8,
@@ -44,7 +45,7 @@ struct Ended {
     err: Vec<u8>,
 }
 
-// Compares what FIRST prints with a text that can be read so many times.
+// Compares the text that FIRST prints with an expected text that can be read `reads` times.
 fn compared(alloc: Global, expected: &[u8], reads: usize) -> Ended {
     let (mut out, mut err) = (Vec::new(alloc), Vec::new(alloc));
     let files = Files {
@@ -57,14 +58,14 @@ fn compared(alloc: Global, expected: &[u8], reads: usize) -> Ended {
     Ended { status, out, err }
 }
 
-// How a command ended, with its status, what it printed and what it told.
+// Asserts the end of a command: its status, the text that it printed, and its message.
 fn check_end(rt: &impl Abort, got: &Ended, (status, out, err): (u8, &[u8], &str)) {
     assert_eq!(rt; got.status, status);
     assert_eq!(rt; got.out.as_slice(), out);
     assert_eq!(rt; got.err.as_slice(), err.as_bytes());
 }
 
-// The reader of the expected text fails at each read in turn, the one that finds its end among them.
+// The reader of the expected text fails at each read in turn, also at the read that finds its end.
 #[test]
 fn tells_that_the_expected_text_cannot_be_read(rt: HostRuntime) {
     let alloc = rt.alloc();
@@ -78,7 +79,8 @@ fn tells_that_the_expected_text_cannot_be_read(rt: HostRuntime) {
     check_end(&rt, &got, (0, b"", ""));
 }
 
-// How a comparison of what FIRST prints with that text ends in a heap of this room: it is done, or has no memory.
+// Whether the comparison of FIRST's text with this text succeeds in a heap of this size. If it does not, asserts that
+// there is no memory.
 fn is_compared(rt: &impl Abort, alloc: Global, text: &[u8], room: usize) -> Result<bool, Fail> {
     let heap = LocalHeap::new(alloc, room)?;
     let mut out = Vec::new(alloc);
@@ -101,8 +103,8 @@ fn is_compared(rt: &impl Abort, alloc: Global, text: &[u8], room: usize) -> Resu
     Ok(status == 0)
 }
 
-// The room for the readers of both files is refused, or for a line of either side, or nothing. Behind the room of the machine
-// the readers take 8 KiB each.
+// There is no memory for the readers of both files or for a line of either side, or there is enough. The readers take 8
+// KiB each, besides the memory of the machine.
 #[test]
 fn compares_or_has_no_memory(rt: HostRuntime) -> Result<(), Fail> {
     let alloc = rt.alloc();
@@ -118,7 +120,7 @@ fn compares_or_has_no_memory(rt: HostRuntime) -> Result<(), Fail> {
     Ok(())
 }
 
-// A session whose trace can't be read further ends so, once what was read is done.
+// If a trace cannot be read further, the session first does all that it has read, and then ends with an error.
 #[test]
 fn ends_a_session_where_it_cannot_read(rt: HostRuntime) {
     let (mut out, mut err) = (Vec::new(rt.alloc()), Vec::new(rt.alloc()));
