@@ -18,7 +18,7 @@ test:
 # bodies that edit a changed file, or that changed themselves. Last it runs the tests that name these crates, without proofs, for at most five
 # minutes. It prints which tests it did not reach, and does not fail because of them.
 quick:
-	bench/changed --tests $(AGAINST)
+	tools/changed --tests $(AGAINST)
 
 ## Run the merge gate, as CI does
 # The gate has all tests unproved, every proof from nothing, wrong bodies, and the tests over the proved program and libraries.
@@ -32,7 +32,7 @@ prove:
 ## Try all wrong bodies over the proofs that are kept
 # A landing tries only some. The last line counts them.
 wrong:
-	bench/wrong-bodies --all --jobs $(or $(JOBS),4) $(CRATES)
+	tools/wrong-bodies --all --jobs $(or $(JOBS),4) $(CRATES)
 
 ## Build the library for C and test it
 c:
@@ -85,7 +85,7 @@ bench:
 
 ## How many at a time (for prove, wrong and test)
 # Each process that proves takes some 4 GB of memory. If you do not give a number, ./prove starts one process for each processor that has 4 GB of
-# free memory, bench/wrong-bodies four, and tests/all one job for each processor.
+# free memory, tools/wrong-bodies four, and tests/all one job for each processor.
 JOBS =
 ## Commit to compare with (for quick)
 AGAINST =

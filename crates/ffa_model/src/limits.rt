@@ -2,7 +2,7 @@
 //! The limits of a machine. Each limit is here once, and every definition, contract and array uses its name.
 
 /// The most blocks of RAM, each of 2 MiB. It must be a power of two up to 512, so that one table of level 2 covers RAM.
-// A machine in its own room (`Inline`) grows by 4 bytes for each page. `bench/larger-ram` tries 512.
+// A machine in its own room (`Inline`) grows by 4 bytes for each page. `tools/larger-ram` tries 512.
 pub const MOST_BLOCKS: u32 = 32;
 
 /// The most bytes of RAM. In a manifest's text, the base of RAM is a multiple of this number.

@@ -1,5 +1,5 @@
 # SPDX-License-Identifier: MIT OR Apache-2.0
-"""How long the gate takes, reckoned from the seconds in the file bench/seconds and proving nothing: `bench/gate --model`.
+"""How long the gate takes, reckoned from the seconds in the file bench/seconds and proving nothing: `tools/gate --model`.
 
 The parts of the gate: `rt ci`, with all tests unproved beside it; the libraries for C; the tests over the proved program and libraries. Tasks
 of `rt ci` stand side by side as there, on processors that are never idle where a task is ready. The landings are this one and the nine
@@ -11,7 +11,7 @@ import sys
 
 sys.dont_write_bytecode = True
 TOP = os.path.dirname(os.path.dirname(os.path.realpath(__file__)))
-sys.path.insert(0, f"{TOP}/bench")
+sys.path.insert(0, f"{TOP}/tools")
 import costs  # noqa: E402
 import listed  # noqa: E402
 import toolchain  # noqa: E402
@@ -117,7 +117,7 @@ def minutes(values):
 
 
 def main():
-    turn = toolchain.loaded("turn", f"{TOP}/bench/turn")
+    turn = toolchain.loaded("turn", f"{TOP}/tools/turn")
     gates = [Gate(it) for it in next_landings(turn, 10)]
     number, first = turn.Landing().landed.number, gates[0]
     print(f"minutes of processor time at landing {number}, and at it and the nine behind it where no crate changes:")

@@ -1,7 +1,7 @@
 # SPDX-License-Identifier: MIT OR Apache-2.0
 """What the gate's tasks take: seconds of processor time, as the gate wrote them into the file bench/seconds.
 
-A line of that file is `WHAT WHOSE SECONDS`; bench/watch has the kinds. One that begins with # says which machine it was. What has no line
+A line of that file is `WHAT WHOSE SECONDS`; tools/watch has the kinds. One that begins with # says which machine it was. What has no line
 yet is reckoned from what is like it.
 """
 import functools
@@ -13,7 +13,7 @@ import sys
 
 sys.dont_write_bytecode = True
 TOP = os.path.dirname(os.path.dirname(os.path.realpath(__file__)))
-sys.path.insert(0, f"{TOP}/bench")
+sys.path.insert(0, f"{TOP}/tools")
 import listed  # noqa: E402
 
 FILE = f"{TOP}/bench/seconds"
@@ -119,7 +119,7 @@ def rest_of(seen, path):
 
 
 def main():
-    """Keeps what stands in a folder of the gate's: what bench/watch wrote, the logs of tests/all, and the times of `rt ci`."""
+    """Keeps what stands in a folder of the gate's: what tools/watch wrote, the logs of tests/all, and the times of `rt ci`."""
     room, head = sys.argv[1:]
     seen = read(f"{room}/watched")
     keep({**seen, **rest_of(seen, f"{room}/processor"), **of_jobs("unproved", f"{room}/tests"), **of_jobs("on-proved", f"{room}/programs")}, head)
