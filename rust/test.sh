@@ -97,7 +97,7 @@ has_arm() {
     return 1
 }
 
-has cargo && has gcc || { echo "no test ran"; exit 0; }
+if ! has cargo || ! has gcc; then echo "no test ran"; exit 0; fi
 mkdir "$to/lib" "$to/arm" "$to/other" "$to/none"
 archive $target "$to/lib" || exit 1
 if [[ -z ${FFAPLAY:-} ]]; then

@@ -13,7 +13,8 @@ build_partition() {
 
 # The device tree: build_tree CONDUIT PROCESSORS WORD.., of which the first is the instruction by which Linux calls, and the last are for the driver
 build_tree() {
-    local end i others='' words="ffa_try.ranges=$(limit_of MOST_RANGES) ffa_try.open=$(limit_of MOST_OPEN)"
+    local end i others='' words
+    words="ffa_try.ranges=$(limit_of MOST_RANGES) ffa_try.open=$(limit_of MOST_OPEN)"
     end=$((16#$initramfs_at + $(stat -L -c %s "$linux/initramfs")))
     for ((i = 1; i < $2; i++)); do
         others+="cpu@$i { device_type = \"cpu\"; compatible = \"arm,cortex-a57\"; enable-method = \"psci\"; reg = <$i>; }; "

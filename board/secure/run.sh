@@ -107,7 +107,7 @@ fi
 # (the firmware prints to the line that the secure world has for itself, and has less memory than another board's)
 flags=("-I$repository/c" "${flags[@]}" "-I$board/linux" "-I$board/linux/partition" "-I$here" "-I$here/stand_in")
 secure_flags=(-DSECURE=1 -DSEVERAL=1 -DRAM_BASE=0x48000000 -DSECURE_BYTES=0x800000 -DFIRMWARE_BASE=0x0E100000 -DUART_BASE=0x09040000
-    -UGORSEPLUMB_ARRAY_BYTES -DGORSEPLUMB_ARRAY_BYTES=0x400000 -Wl,--defsym=FIRMWARE_BASE=0x0E100000 -Wl,--defsym=FIRMWARE_END=0x0F000000)
+    -UGORSEPLUMB_ARRAY_BYTES -DGORSEPLUMB_ARRAY_BYTES=0x400000 "-Wl,--defsym=FIRMWARE_BASE=0x0E100000" "-Wl,--defsym=FIRMWARE_END=0x0F000000")
 
 # The firmware, which TF-A calls BL32, with the manifest, the list of endpoints and a file of stand_in/ in it: build_firmware STAND_IN DEFINITION..
 build_firmware() {
@@ -155,7 +155,7 @@ with_tsp() {
 # In secure memory, whose last pages are the tables, and where QEMU puts nothing: the firmware has the partitions' program in its image. The program
 # plays the same machine elsewhere, with tables at RAM's start.
 small_tables=-DTABLES_AT=0x0EFE8000
-small_flags=(-DIN_IMAGE=1 -URAM_BASE -DRAM_BASE=0x0E400000 "$small_tables" -UGORSEPLUMB_ARRAY_BYTES -DGORSEPLUMB_ARRAY_BYTES=0x100000 -Wl,--defsym=FIRMWARE_END=0x0E400000)
+small_flags=(-DIN_IMAGE=1 -URAM_BASE -DRAM_BASE=0x0E400000 "$small_tables" -UGORSEPLUMB_ARRAY_BYTES -DGORSEPLUMB_ARRAY_BYTES=0x100000 "-Wl,--defsym=FIRMWARE_END=0x0E400000")
 
 with_two_small_partitions() {
     cp "$here/small.toml" "$to/manifest"

@@ -45,7 +45,6 @@ check_folder "$work"
 [[ $(uname -m) == x86_64 ]] || fail "this machine is $(uname -m); the sandbox and the library must be for x86_64"
 if [[ $install ]]; then install_packages "${packages[@]}"; fi
 needs "${packages[*]}" $compiler make bison flex bzip2 apt-get
-# shellcheck disable=SC2119 # (without its option)
 check_given
 mkdir -p "$work/u-boot" ${keep:+"$keep"}
 work=$(cd "$work/u-boot" && pwd)

@@ -2,7 +2,6 @@
 """`ffaplay picture`: draws a trace. The script `ffaplay`, at the top of the repository, runs this."""
 from __future__ import annotations
 
-import os
 import sys
 import tempfile
 from collections.abc import Iterable, Sequence
