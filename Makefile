@@ -67,9 +67,9 @@ uboot:
 	board/u-boot/run.sh
 
 ## Compare the pages with the code
-# The scripts also check licence lines, the tables in other languages, each list of calls, the names in C, registers in the manual, words of
-# reasons and pictures, and add the example's call to a copy. They prove nothing. All of them run, and the last line names those that failed.
-OF_THE_PAGES = tests/docs tests/licence-lines tests/copies tests/calls tests/names tests/manual-checks tests/a-call tests/pictures
+# The scripts also check licence lines, pictures, and the tables and lists that follow from tables of the crates. They add the example's call
+# to a copy. They prove nothing. All of them run, and the last line names those that failed.
+OF_THE_PAGES = tests/docs tests/licence-lines tests/copies tests/lists tests/a-call tests/pictures
 docs:
 	@failed=; for each in $(OF_THE_PAGES); do echo $$each; $$each || failed="$$failed $$each"; done; \
 	[ -z "$$failed" ] || { echo "failed:$$failed"; exit 1; }

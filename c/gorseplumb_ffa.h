@@ -1,7 +1,7 @@
 /* SPDX-License-Identifier: MIT OR Apache-2.0 */
 /* FF-A's numbers by name, and short ways to make a call and to read an answer. You need this header if you write a test
  * bench, or firmware that has no header with these names. It is optional: gorseplumb.h does not need it. tests/copies
- * writes the identifiers from the crates' table, and tests/names compares the other numbers. The functions are C, and
+ * writes the identifiers from the crates' table, and tests/lists compares the other numbers. The functions are C, and
  * not proved. They put numbers into registers and take numbers out of them. They need no C library, and call only
  * gorseplumb_call of Gorseplumb's library. */
 #ifndef GORSEPLUMB_FFA_H

@@ -1,6 +1,6 @@
 /* SPDX-License-Identifier: MIT OR Apache-2.0 */
 /* Names as text: the standard's, what the program prints, and the version. tests/copies writes functions, checks and flaws of the
- * crates' tables, and tests/names compares the others. What stands here asks for no function and has no pointer in its
+ * crates' tables, and tests/lists compares the others. What stands here asks for no function and has no pointer in its
  * data, so it is right at whichever address it is loaded. c/archive puts it into the archive, with a section for each
  * function and each table, so that a linker drops those that nobody asks. */
 /* They are C because an export of the crate may not return a pointer, and a proof would say only that a text is this text. */
