@@ -2,7 +2,7 @@
 //! Each check of the manual fails once: the call answers the manual's code, and nothing has changed.
 mod common;
 
-use common::refusals::{rows, Row, MACHINE, NEVER};
+use common::refusals::{rows, Row, NEVER};
 use common::{play_line, top};
 use gorseplumb::{Check, ErrorCode, Machine, Page, Ram};
 use std::collections::{BTreeMap, BTreeSet};
@@ -59,7 +59,7 @@ fn is_refused(told: &str) -> bool {
 
 fn fails(row: &Row, code: ErrorCode) {
     let (call, number) = row.check;
-    let mut machine = Machine::boot(&MACHINE).unwrap();
+    let mut machine = Machine::boot(&row.machine()).unwrap();
     for line in row.before.lines() {
         let told = play_line(&mut machine, line);
         assert!(!is_refused(&told), "{call} {number}: {line}: {told}");

@@ -5,10 +5,10 @@ mod common;
 use common::explained::explain;
 use common::machines::{MACHINE, PARTITIONS};
 use common::refusals::{rows, Row};
-use common::{example, generated, play, play_line, ram, refusals, top};
+use common::{example, generated, play, play_line, ram, top};
 use gorseplumb::{
-    call_name, raw, registers, About, Allowed, CallError, Check, CheckCause, ErrorCode, Fault, Flaw, Function, Grant,
-    Handle, Hint, Id, Machine, Obstacle, Rights, RunState, Side, Size, Version,
+    call_name, raw, registers, About, Allowed, CallError, Check, CheckCause, ErrorCode, Fault, Ffa, Flaw, Function,
+    Grant, Handle, Hint, Id, Machine, Obstacle, Rights, RunState, Side, Size, Version,
 };
 use std::ffi::CStr;
 
@@ -47,7 +47,7 @@ fn given(line: &str) -> gorseplumb::Registers {
 
 fn told_of(row: &Row) {
     let (call, number) = row.check;
-    let mut machine = Machine::boot(&refusals::MACHINE).unwrap();
+    let mut machine = Machine::boot(&row.machine()).unwrap();
     for line in row.before.lines() {
         if line.starts_with("call") {
             assert_eq!(machine.why_call(&given(line)), None, "{call} {number}: {line}");
@@ -331,17 +331,24 @@ store 40010050 0000000040012000
 store 40010058 0000000000000001
 ";
 
-/// The last check of a send, after 65,535 lends, each of which is reclaimed.
+/// The last check of a send, after 65,535 lends, each of which is reclaimed. In FF-A 1.2 it does not fail yet, and the
+/// next lend gets the next handle.
 #[test]
 fn handles_that_are_used_up() {
-    let mut machine = machine_after(&[DESCRIBED]);
     let lend = Function::MemLend.with([0x60, 0x60]);
-    for number in 1..=65_535 {
-        machine.call(&lend).done().unwrap();
-        machine.call(&Function::MemReclaim.with([number])).done().unwrap();
+    for (ffa, check) in [(Ffa::V1_1, Some(Check::HandlesUsedUp)), (Ffa::V1_2, None)] {
+        let mut machine = Machine::boot(&MACHINE.with_ffa(ffa)).unwrap();
+        play(&mut machine, DESCRIBED);
+        for number in 1..=65_535 {
+            machine.call(&lend).done().unwrap();
+            machine.call(&Function::MemReclaim.with([number])).done().unwrap();
+        }
+        let told = machine.why_call(&lend);
+        assert_eq!(told.map(|reason| (reason.check, reason.about)), check.map(|check| (check, None)));
+        let answer = machine.call(&lend);
+        assert_eq!(answer.error(), check.map(|_| ErrorCode::NoMemory));
+        assert_eq!(answer.handle(), check.map_or(Some(Handle(0x1_0000)), |_| None));
     }
-    let told = machine.why_call(&lend).map(|reason| (reason.check, reason.about));
-    assert_eq!(told, Some((Check::HandlesUsedUp, None)));
 }
 
 #[test]

@@ -55,7 +55,7 @@ module _ (s : State) (steady : IsSteady s) (e p : ℕ) (owned : owner_of s p ≡
   unnamed-sent : (kind : Kind) (x : Transfer) → first_failure (memory_send s kind x).guards ≡ None → handle_at (memory_send s kind x).state p ≡ None
   unnamed-sent kind x none = of (send_read s kind x.total) none
     where
-      of : (o : Option SendRecord) → first_failure (send_guards (scene_of s) s.runner x o) ≡ None → handle_at (memory_sent s kind o) p ≡ None
+      of : (o : Option SendRecord) → first_failure (send_guards s.ffa (scene_of s) s.runner x o) ≡ None → handle_at (memory_sent s kind o) p ≡ None
       of None none = absurd (no-offer s x none)
       of (Some r) none =
           let good = offer s x r none in

@@ -262,7 +262,7 @@ module _ (s : State) (hides : ℕ → Bool) where
     send-o : (kind : Kind) (x : Transfer) → take x.total (tx_bytes o s.runner) ≡ take x.total (tx_bytes s s.runner) → Alike (memory_send o kind x) (memory_send s kind x)
     send-o kind x part =
         record {
-          guards = λ i. first_failure (send_guards (scene-o i) s.runner x (send_of s.ffa kind (in_version (version_of s s.runner) (part i))));
+          guards = λ i. first_failure (send_guards s.ffa (scene-o i) s.runner x (send_of s.ffa kind (in_version (version_of s s.runner) (part i))));
           reply = refl;
           state = ap (λ said. blank hides (memory_sent o kind (send_of s.ffa kind (in_version (version_of s s.runner) said)))) part ∙ sent-o kind (send_read s kind x.total);
         }

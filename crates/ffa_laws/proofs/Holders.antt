@@ -7,7 +7,6 @@ use Rattle.std.specs.Cmp.{nat_cmp_total, unsigned_tied}
 use Rattle.std.specs.FinMap as finite
 use Rattle.std.proofs.Math.Path.{fun_ext}
 use Rattle.std.proofs.lemmas.Option.{same_Some}
-use Rattle.ffa_model.specs.declared.limits.TheConstants.{MOST_SENDS}
 use Rattle.ffa_model.specs.declared.rights.Kind.{Kind}
 use Rattle.ffa_model.specs.declared.rights.Kind.TheVariants.{Share, Lend, Donate}
 use Rattle.ffa_model.specs.declared.rights.Rights.{Rights}
@@ -15,7 +14,7 @@ use Rattle.ffa_model.specs.Lists.{map_at}
 use Rattle.ffa_model.specs.Rights.{is_lend, is_share, is_within}
 use Rattle.ffa_model.specs.State.{State, Transaction, owner_of, sent_by, transaction_of, own_right_of}
 use Rattle.ffa_model.specs.Access.{handle_at, held_by, is_naming, is_receiver, names, ownership_of}
-use Rattle.ffa_model.specs.Transactions.{handle_of, holding, not_holding}
+use Rattle.ffa_model.specs.Transactions.{handle_of, holding, most_sends, not_holding}
 use Rattle.ffa_laws.specs.Steady.{IsSteady, IsSteadyTransaction, is_joint}
 use Rattle.ffa_laws.specs.View.{view, involves, is_near, kept, seen_by, transactions_of}
 use Rattle.ffa_laws.proofs.Maps.{first_no, first_none, first_one, first_some}
@@ -212,11 +211,11 @@ module _ (s : State) (steady : IsSteady s) (h : ℕ) (t : Transaction) (there : 
           bound = steady.bound;
         }
       where
-        numbered : (k : ℕ) (u : Transaction) → transaction_of after k ≡ Some u → (n : ℕ) × (k ≡ handle_of u.sender n) × (n ≤ sent_by s u.sender) × (n ≤ MOST_SENDS)
+        numbered : (k : ℕ) (u : Transaction) → transaction_of after k ≡ Some u → (n : ℕ) × (k ≡ handle_of u.sender n) × (n ≤ sent_by s u.sender) × (n ≤ most_sends s.ffa)
         numbered k u is =
-            elim (k == h) as (λ b. (k == h) ≡ b → cond b (Some changed) (transaction_of s k) ≡ Some u → (n : ℕ) × (k ≡ handle_of u.sender n) × (n ≤ sent_by s u.sender) × (n ≤ MOST_SENDS)) [
+            elim (k == h) as (λ b. (k == h) ≡ b → cond b (Some changed) (transaction_of s k) ≡ Some u → (n : ℕ) × (k ≡ handle_of u.sender n) × (n ≤ sent_by s u.sender) × (n ≤ most_sends s.ffa)) [
               | true ↦ λ same its.
-                  subst (λ f. (n : ℕ) × (k ≡ handle_of f n) × (n ≤ sent_by s f) × (n ≤ MOST_SENDS)) (ap (λ (v : Transaction). v.sender) (same_Some changed u its))
+                  subst (λ f. (n : ℕ) × (k ≡ handle_of f n) × (n ≤ sent_by s f) × (n ≤ most_sends s.ffa)) (ap (λ (v : Transaction). v.sender) (same_Some changed u its))
                   (steady.numbers k t (ap (transaction_of s) (eqb-true k h same) ∙ there))
               | false ↦ λ other old. steady.numbers k u old
             ] refl (sym (get-insert s.transactions h changed k) ∙ is)

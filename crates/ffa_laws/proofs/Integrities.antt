@@ -127,7 +127,7 @@ module _ (s : State) (steady : IsSteady s) (e p : ℕ) (owned : owner_of s p ≡
   sent-elsewhere : (kind : Kind) (x : Transfer) → first_failure (memory_send s kind x).guards ≡ None → page_in (memory_send s kind x).state.pages p ≡ page_in s.pages p
   sent-elsewhere kind x none = of (send_read s kind x.total) none
     where
-      of : (o : Option SendRecord) → first_failure (send_guards (scene_of s) s.runner x o) ≡ None → page_in (memory_sent s kind o).pages p ≡ page_in s.pages p
+      of : (o : Option SendRecord) → first_failure (send_guards s.ffa (scene_of s) s.runner x o) ≡ None → page_in (memory_sent s kind o).pages p ≡ page_in s.pages p
       of None none = refl
       of (Some r) none =
           elsewhere-zeroed r.zero r.ranges (elim (cases_Bool (names s r.ranges p)) [

@@ -230,7 +230,7 @@ module _ (e : ℕ) (s : State) (steady : IsSteady s) where
   news-sent : (kind : Kind) (x : Transfer) → first_failure (memory_send s kind x).guards ≡ None → AreNews e v (opens e s kind (send_read s kind x.total))
   news-sent kind x none = of (send_read s kind x.total) none
     where
-      of : (o : Option SendRecord) → first_failure (send_guards (scene_of s) s.runner x o) ≡ None → AreNews e v (opens e s kind o)
+      of : (o : Option SendRecord) → first_failure (send_guards s.ffa (scene_of s) s.runner x o) ≡ None → AreNews e v (opens e s kind o)
       of None none = tt
       of (Some r) none =
           let h = next_handle (open_of s) s.runner in

@@ -78,7 +78,7 @@ module _ (s : State) (h : ℕ) where
   comes-sent : (kind : Kind) (x : Transfer) → first_failure (memory_send s kind x).guards ≡ None → Comes s h (memory_send s kind x).state
   comes-sent kind x none = of (send_read s kind x.total) none
     where
-      of : (o : Option SendRecord) → first_failure (send_guards (scene_of s) s.runner x o) ≡ None → Comes s h (memory_sent s kind o)
+      of : (o : Option SendRecord) → first_failure (send_guards s.ffa (scene_of s) s.runner x o) ≡ None → Comes s h (memory_sent s kind o)
       of None none = absurd (no-offer s x none)
       of (Some r) none = go (h == next_handle (open_of s) s.runner) refl
         where

@@ -181,7 +181,7 @@ module _ (s : State) (steady : IsSteady s) where
   send-own : (kind : Kind) (x : Transfer) (takes : Bool) → (takes ≡ false → is_share kind ≡ true) → first_failure (memory_send s kind x).guards ≡ None → Own s (memory_send s kind x).state false takes
   send-own kind x takes shared none = of (send_read s kind x.total) none
     where
-      of : (o : Option SendRecord) → first_failure (send_guards (scene_of s) s.runner x o) ≡ None → Own s (memory_sent s kind o) false takes
+      of : (o : Option SendRecord) → first_failure (send_guards s.ffa (scene_of s) s.runner x o) ≡ None → Own s (memory_sent s kind o) false takes
       of None none = absurd (no-offer s x none)
       of (Some r) none = sent-own kind r (offer s x r none) takes shared
 

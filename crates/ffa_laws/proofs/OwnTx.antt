@@ -109,7 +109,7 @@ module _ (s : State) (sound : IsSoundState s) (b : Buffers) (has : buffers_of s 
   send-off : (kind : Kind) (x : Transfer) → first_failure (memory_send s kind x).guards ≡ None → bytes_in (memory_send s kind x).state.pages p ≡ bytes_in s.pages p
   send-off kind x none = of (send_read s kind x.total) none
     where
-      of : (o : Option SendRecord) → first_failure (send_guards (scene_of s) s.runner x o) ≡ None → bytes_in (memory_sent s kind o).pages p ≡ bytes_in s.pages p
+      of : (o : Option SendRecord) → first_failure (send_guards s.ffa (scene_of s) s.runner x o) ≡ None → bytes_in (memory_sent s kind o).pages p ≡ bytes_in s.pages p
       of None none = absurd (no-offer s x none)
       of (Some r) none = off-zeros r.zero r.ranges (not-sent r (offer s x r none))
 

@@ -8,9 +8,10 @@ use Rattle.std.specs.FinMap as finite
 use Rattle.std.proofs.lemmas.Bool.{and_parts, cases_Bool, cases_eq, cases_lt, eq-eqb, eqb-true, false≢true, ltb-true, ne_eqb, true≢false}
 use Rattle.std.proofs.lemmas.List.{get_or-set_other, get_or-set_same, get_or_past}
 use Rattle.std.proofs.lemmas.Option.{none-some, same_Some}
-use Rattle.ffa_model.specs.declared.limits.TheConstants.{MOST_OPEN, MOST_SENDS}
+use Rattle.ffa_model.specs.declared.limits.TheConstants.{MOST_HANDLES, MOST_OPEN}
 use Rattle.ffa_model.proofs.Runs.{in-run}
 use Rattle.ffa_model.specs.DescriptorPlaces.{in_version}
+use Rattle.ffa_model.specs.declared.manifest.Ffa.{Ffa}
 use Rattle.ffa_model.specs.declared.rights.Kind.{Kind}
 use Rattle.ffa_model.specs.declared.transaction.Range.{Range}
 use Rattle.ffa_model.specs.declared.transaction.Receiver.{Receiver}
@@ -25,12 +26,12 @@ use Rattle.ffa_model.specs.Calls.{first_failure}
 use Rattle.ffa_model.specs.RunStates.{schedule_of}
 use Rattle.ffa_model.specs.SendDescriptor.{SendRecord, most_receivers, send_of}
 use Rattle.ffa_model.specs.declared.call.Transfer.{Transfer}
-use Rattle.ffa_model.specs.Transactions.{Scene, are_writable, handle_of, next_handle, open_of, open_count, pages_in, scene_of, sends_of}
+use Rattle.ffa_model.specs.Transactions.{Scene, are_writable, handle_of, most_sends, next_handle, open_of, open_count, pages_in, scene_of, sends_of}
 use Rattle.ffa_model.specs.MemorySend.{are_grants_within, are_known, handle_reply, is_buffer, is_grantable, is_inside, is_of_one_world, is_sendable, is_told_normal, memory_send, memory_sent, send_guards, send_read, transaction_from, transaction_sent, descriptor_in}
 use Rattle.ffa_laws.specs.Steady.{IsAlone, IsSteady, IsSteadyTransaction}
 use Rattle.ffa_laws.specs.View.{view, buffers_seen, hidden, involves, is_near, kept}
 use Rattle.ffa_laws.specs.Events.{Event, Opened, apply, apply_all, named_pages, opens, public_change, where_true}
-use Rattle.ffa_model.proofs.CallAccesses.{handle-parts}
+use Rattle.ffa_model.proofs.CallAccesses.{handle-parts, handles-enough}
 use Rattle.ffa_model.proofs.Guards.{guard-passes, invalid, denied, no_memory}
 use Rattle.ffa_model.proofs.KeptDonate.{same-tests}
 use Rattle.ffa_model.proofs.KeptSend.{any-at}
@@ -65,20 +66,20 @@ pub record IsOffer (s : State) (r : SendRecord) : Type 0 where
   pub zeroed : r.zero ≡ true → are_writable (ownership_of s) r.ranges ≡ true
   pub one_world : is_of_one_world (ownership_of s) s.normal r ≡ true
   pub few : open_count (open_of s) s.runner < MOST_OPEN
-  pub sent : sent_by s s.runner < MOST_SENDS
+  pub sent : sent_by s s.runner < most_sends s.ffa
 
-pub offer : (s : State) (x : Transfer) (r : SendRecord) → first_failure (send_guards (scene_of s) s.runner x (Some r)) ≡ None → IsOffer s r
+pub offer : (s : State) (x : Transfer) (r : SendRecord) → first_failure (send_guards s.ffa (scene_of s) s.runner x (Some r)) ≡ None → IsOffer s r
 offer s x r none =
     record {
-      sender = eqb-true r.sender s.runner (guard-passes (send_guards (scene_of s) s.runner x (Some r)) 5 (sym none));
-      known = guard-passes (send_guards (scene_of s) s.runner x (Some r)) 6 (sym none);
-      inside = guard-passes (send_guards (scene_of s) s.runner x (Some r)) 7 (sym none);
-      free = guard-passes (send_guards (scene_of s) s.runner x (Some r)) 8 (sym none);
-      grants = guard-passes (send_guards (scene_of s) s.runner x (Some r)) 9 (sym none);
-      zeroed = zeroes r.zero (guard-passes (send_guards (scene_of s) s.runner x (Some r)) 10 (sym none));
-      one_world = guard-passes (send_guards (scene_of s) s.runner x (Some r)) 11 (sym none);
-      few = ltb-true (open_count (open_of s) s.runner) MOST_OPEN (guard-passes (send_guards (scene_of s) s.runner x (Some r)) 12 (sym none));
-      sent = ltb-true (sent_by s s.runner) MOST_SENDS (guard-passes (send_guards (scene_of s) s.runner x (Some r)) 13 (sym none));
+      sender = eqb-true r.sender s.runner (guard-passes (send_guards s.ffa (scene_of s) s.runner x (Some r)) 5 (sym none));
+      known = guard-passes (send_guards s.ffa (scene_of s) s.runner x (Some r)) 6 (sym none);
+      inside = guard-passes (send_guards s.ffa (scene_of s) s.runner x (Some r)) 7 (sym none);
+      free = guard-passes (send_guards s.ffa (scene_of s) s.runner x (Some r)) 8 (sym none);
+      grants = guard-passes (send_guards s.ffa (scene_of s) s.runner x (Some r)) 9 (sym none);
+      zeroed = zeroes r.zero (guard-passes (send_guards s.ffa (scene_of s) s.runner x (Some r)) 10 (sym none));
+      one_world = guard-passes (send_guards s.ffa (scene_of s) s.runner x (Some r)) 11 (sym none);
+      few = ltb-true (open_count (open_of s) s.runner) MOST_OPEN (guard-passes (send_guards s.ffa (scene_of s) s.runner x (Some r)) 12 (sym none));
+      sent = ltb-true (sent_by s s.runner) (most_sends s.ffa) (guard-passes (send_guards s.ffa (scene_of s) s.runner x (Some r)) 13 (sym none));
     }
   where
     zeroes : (zero : Bool) → (not zero || are_writable (ownership_of s) r.ranges) ≡ true → zero ≡ true → are_writable (ownership_of s) r.ranges ≡ true
@@ -86,8 +87,8 @@ offer s x r none =
     zeroes false is asked = absurd (false≢true asked)
 
 -- bytes that are no send descriptor are refused
-pub no-offer : (s : State) (x : Transfer) → first_failure (send_guards (scene_of s) s.runner x None) ≡ None → ⊥
-no-offer s x none = false≢true (guard-passes (send_guards (scene_of s) s.runner x None) 5 (sym none))
+pub no-offer : (s : State) (x : Transfer) → first_failure (send_guards s.ffa (scene_of s) s.runner x None) ≡ None → ⊥
+no-offer s x none = false≢true (guard-passes (send_guards s.ffa (scene_of s) s.runner x None) 5 (sym none))
 
 -- ---- pages that may be sent
 module _ (s : State) (ranges : List Range) (free : list_all (is_sendable s.runner (ownership_of s) s.buffers) (pages_in (ownership_of s) ranges) ≡ true) where
@@ -111,13 +112,13 @@ asked_first mapped room endpoints ram e x r =
     ∷ (list_all (is_inside ram) r.ranges, denied)
     ∷ []
 
-abbrev asked_of_pages : Scene → ℕ → SendRecord → List (Bool × Refusal)
-asked_of_pages c e r =
+abbrev asked_of_pages : Ffa → Scene → ℕ → SendRecord → List (Bool × Refusal)
+asked_of_pages ffa c e r =
     (list_all (are_grants_within c.ram r.receivers) (pages_in c.ram r.ranges), denied)
     ∷ (not r.zero || are_writable c.ram r.ranges, denied)
     ∷ (is_of_one_world c.ram c.normal r, denied)
     ∷ (nat_lt (open_count c.open_transactions e) MOST_OPEN, no_memory)
-    ∷ (nat_lt (sends_of c.open_transactions e) MOST_SENDS, no_memory)
+    ∷ (nat_lt (sends_of c.open_transactions e) (most_sends ffa), no_memory)
     ∷ []
 
 module _ (s : State) (steady : IsSteady s) where
@@ -250,7 +251,7 @@ module _ (s : State) (steady : IsSteady s) where
   handle-seen : next_handle (open_of v) s.runner ≡ next_handle (open_of s) s.runner
   handle-seen = ap (λ n. handle_of s.runner (n + 1)) sends-seen
 
-  same-failure : (x : Transfer) (r : Option SendRecord) → first_failure (send_guards (scene_of v) s.runner x r) ≡ first_failure (send_guards (scene_of s) s.runner x r)
+  same-failure : (x : Transfer) (r : Option SendRecord) → first_failure (send_guards s.ffa (scene_of v) s.runner x r) ≡ first_failure (send_guards s.ffa (scene_of s) s.runner x r)
   same-failure x None = λ i. first_failure (
       (some-seen s steady s.runner i, invalid)
       ∷ (x.total == x.fragment, invalid)
@@ -262,15 +263,15 @@ module _ (s : State) (steady : IsSteady s) where
   same-failure x (Some r) =
       (λ i. first_failure (asked_first (some-seen s steady s.runner i) (room-seen s steady s.runner i) (length s.parties) (record (ownership_of s) { count = size-seen i }) s.runner x r
       ++ (all-sendable-seen r.ranges i, denied)
-      ∷ asked_of_pages (scene_of v) s.runner r))
+      ∷ asked_of_pages s.ffa (scene_of v) s.runner r))
       ∙ same-later denied (asked_first (is_some (buffers_in s.buffers s.runner)) (room_of (buffers_in s.buffers s.runner)) (length s.parties) (ownership_of s) s.runner x r)
-      (list_all (is_sendable s.runner (ownership_of s) s.buffers) (pages_in (ownership_of s) r.ranges)) (asked_of_pages (scene_of v) s.runner r) (asked_of_pages (scene_of s) s.runner r)
+      (list_all (is_sendable s.runner (ownership_of s) s.buffers) (pages_in (ownership_of s) r.ranges)) (asked_of_pages s.ffa (scene_of v) s.runner r) (asked_of_pages s.ffa (scene_of s) s.runner r)
       (λ free i. first_failure (
       (grants-seen r.ranges free r.receivers i, denied)
       ∷ (not r.zero || writable-seen r.ranges free i, denied)
       ∷ (world-seen r i, denied)
       ∷ (nat_lt (count-seen s.runner s i) MOST_OPEN, no_memory)
-      ∷ (nat_lt (sends-seen i) MOST_SENDS, no_memory)
+      ∷ (nat_lt (sends-seen i) (most_sends s.ffa), no_memory)
       ∷ []))
 
 -- ---- a send that is not refused
@@ -305,8 +306,9 @@ module _ (s : State) (steady : IsSteady s) (kind : Kind) (r : SendRecord) (good 
       of None is = refl
       of (Some u) is =
           let (n, same, below, few) = steady.numbers h u is in
-          let most : sent_by s s.runner < MOST_SENDS = good.sent in
-          let parts = handle-parts s.runner u.sender (sent_by s s.runner + 1) n same (omega (arith, most)) (omega (arith, few)) in
+          let enough : most_sends s.ffa ≤ MOST_HANDLES = handles-enough s.ffa in
+          let most : sent_by s s.runner < most_sends s.ffa = good.sent in
+          let parts = handle-parts s.runner u.sender (sent_by s s.runner + 1) n same (omega (arith, enough, most)) (omega (arith, enough, few)) in
           let sent : sent_by s s.runner ≡ sent_by s u.sender = ap (sent_by s) parts.0 in
           let next : sent_by s s.runner + 1 ≡ n = parts.1 in
           absurd (omega (arith, sent, next, below))
@@ -396,10 +398,10 @@ module _ (s : State) (steady : IsSteady s) (kind : Kind) (r : SendRecord) (good 
       | inr apart ↦ (let same : sent_by y e ≡ sent_by s e = get_or-set_other s.sent (place r.sender) (place e) (sent_by s r.sender + 1) 0 apart in omega (arith, same))
     ]
 
-    number-of : (k : ℕ) (u : Transaction) → transaction_of y k ≡ Some u → (n : ℕ) × (k ≡ handle_of u.sender n) × (n ≤ sent_by y u.sender) × (n ≤ MOST_SENDS)
+    number-of : (k : ℕ) (u : Transaction) → transaction_of y k ≡ Some u → (n : ℕ) × (k ≡ handle_of u.sender n) × (n ≤ sent_by y u.sender) × (n ≤ most_sends s.ffa)
     number-of k u is = elim (open-cases k u is) [
       | inl new ↦
-          subst (λ (x : Transaction). (n : ℕ) × (k ≡ handle_of x.sender n) × (n ≤ sent_by y x.sender) × (n ≤ MOST_SENDS)) new.1
+          subst (λ (x : Transaction). (n : ℕ) × (k ≡ handle_of x.sender n) × (n ≤ sent_by y x.sender) × (n ≤ most_sends s.ffa)) new.1
           (let most = good.sent in
           let of_sender : sent_by s r.sender ≡ sent_by s s.runner = ap (sent_by s) good.sender in
           (sent_by s s.runner + 1, new.0 ∙ ap (λ e. handle_of e (sent_by s s.runner + 1)) (sym good.sender), omega (arith, sent-own, of_sender), omega (arith, most)))
@@ -452,7 +454,7 @@ module _ (s : State) (steady : IsSteady s) (kind : Kind) (r : SendRecord) (good 
 -- ---- the calls
 pub own-send : (s : State) → IsSteady s → (kind : Kind) (x : Transfer) → IsOwn s (memory_send (view s.runner s) kind x) (memory_send s kind x)
 own-send s steady kind x = (
-  ap (λ d. first_failure (send_guards (scene_of (view s.runner s)) s.runner x (send_of s.ffa kind d))) same-descriptor ∙ same-failure s steady x (send_read s kind x.total),
+  ap (λ d. first_failure (send_guards s.ffa (scene_of (view s.runner s)) s.runner x (send_of s.ffa kind d))) same-descriptor ∙ same-failure s steady x (send_read s kind x.total),
   λ none. (
     ap (λ d. memory_sent (view s.runner s) kind (send_of s.ffa kind d)) same-descriptor ∙ of (send_read s kind x.total) none,
     ap handle_reply (handle-seen s steady),
@@ -462,21 +464,21 @@ own-send s steady kind x = (
     same-descriptor : descriptor_in (view s.runner s) x.total ≡ descriptor_in s x.total
     same-descriptor = λ i. in_version (version-seen s.runner s steady.runner i) (take x.total (tx-seen s steady i))
 
-    of : (o : Option SendRecord) → first_failure (send_guards (scene_of s) s.runner x o) ≡ None → memory_sent (view s.runner s) kind o ≡ view s.runner (memory_sent s kind o)
+    of : (o : Option SendRecord) → first_failure (send_guards s.ffa (scene_of s) s.runner x o) ≡ None → memory_sent (view s.runner s) kind o ≡ view s.runner (memory_sent s kind o)
     of None none = absurd (no-offer s x none)
     of (Some r) none = own-state s steady kind r (offer s x r none)
 
 pub steady-send : (s : State) → IsSteady s → (kind : Kind) (x : Transfer) → first_failure (memory_send s kind x).guards ≡ None → IsSteady (memory_send s kind x).state
 steady-send s steady kind x none = of (send_read s kind x.total) refl none
   where
-    of : (o : Option SendRecord) → send_read s kind x.total ≡ o → first_failure (send_guards (scene_of s) s.runner x o) ≡ None → IsSteady (memory_sent s kind o)
+    of : (o : Option SendRecord) → send_read s kind x.total ≡ o → first_failure (send_guards s.ffa (scene_of s) s.runner x o) ≡ None → IsSteady (memory_sent s kind o)
     of None is none = steady
     of (Some r) is none = steady-sent s steady kind r (offer s x r none) (counted s.ffa kind (descriptor_in s x.total) r is).few_receivers
 
 pub other-send : (e : ℕ) (s : State) → IsSteady s → is_known s e ≡ true → s.runner ≢ e → (kind : Kind) (x : Transfer) → IsTold e s (memory_send s kind x) (opens e s kind (send_read s kind x.total))
 other-send e s steady known other kind x none = of (send_read s kind x.total) none
   where
-    of : (o : Option SendRecord) → first_failure (send_guards (scene_of s) s.runner x o) ≡ None
+    of : (o : Option SendRecord) → first_failure (send_guards s.ffa (scene_of s) s.runner x o) ≡ None
         → view e (memory_sent s kind o) ≡ apply_all e (view e s) (opens e s kind o ++ public_change s (memory_sent s kind o))
     of None none = absurd (no-offer s x none)
     of (Some r) none =

@@ -6,7 +6,7 @@ use Rattle.std.specs.List.{list_all}
 use Rattle.std.specs.Ordering.{nat_cmp}
 use Rattle.std.specs.FinMap as finite
 use Rattle.std.proofs.lemmas.Bool.{and_parts, false≢true, not-true, or_cases}
-use Rattle.ffa_model.specs.declared.limits.TheConstants.{MOST_OPEN, MOST_SENDS}
+use Rattle.ffa_model.specs.declared.limits.TheConstants.{MOST_OPEN}
 use Rattle.ffa_model.specs.declared.endpoint.Region.{Region}
 use Rattle.ffa_model.specs.declared.rights.Kind.{Kind}
 use Rattle.ffa_model.specs.Regions.{is_normal}
@@ -16,7 +16,7 @@ use Rattle.ffa_model.specs.Messages.{tx_bytes}
 use Rattle.ffa_model.specs.SendDescriptor.{SendRecord, is_named}
 use Rattle.ffa_model.specs.SoundState.{IsSoundState, is_secure}
 use Rattle.ffa_model.specs.declared.call.Transfer.{Transfer}
-use Rattle.ffa_model.specs.Transactions.{open_of, open_count, pages_in, scene_of}
+use Rattle.ffa_model.specs.Transactions.{most_sends, open_of, open_count, pages_in, scene_of}
 use Rattle.ffa_model.specs.MemorySend.{are_normal, are_secure, descriptor_in, is_of_one_world, is_sendable, memory_send, memory_sent, send_guards, send_read, transaction_sent}
 use Rattle.ffa_model.proofs.KeptCalls.{offered-sound}
 use Rattle.ffa_model.proofs.KeptSend.{IsSendable}
@@ -57,7 +57,7 @@ module _ (s : State) (sound : IsSoundState s) (kind : Kind) (x : Transfer) where
         grants = good.grants;
         zeroed = good.zeroed;
         few = subst (λ e. open_count (open_of s) e < MOST_OPEN) (sym good.sender) good.few;
-        sent = subst (λ e. sent_by s e < MOST_SENDS) (sym good.sender) good.sent;
+        sent = subst (λ e. sent_by s e < most_sends s.ffa) (sym good.sender) good.sent;
         unheld = λ e. finite.get-empty nat_cmp e;
         receivers = good.known;
         some_receivers = counts.some_receivers;
@@ -72,6 +72,6 @@ module _ (s : State) (sound : IsSoundState s) (kind : Kind) (x : Transfer) where
   pub send-sound : first_failure (memory_send s kind x).guards ≡ None → IsSoundState (memory_send s kind x).state
   send-sound none = of (send_read s kind x.total) refl none
     where
-      of : (o : Option SendRecord) → send_read s kind x.total ≡ o → first_failure (send_guards (scene_of s) s.runner x o) ≡ None → IsSoundState (memory_sent s kind o)
+      of : (o : Option SendRecord) → send_read s kind x.total ≡ o → first_failure (send_guards s.ffa (scene_of s) s.runner x o) ≡ None → IsSoundState (memory_sent s kind o)
       of None is none = absurd (no-offer s x none)
       of (Some r) is none = let good = offer s x r none in offered-sound s sound kind r good.sender (sendable r is good)

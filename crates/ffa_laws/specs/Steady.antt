@@ -2,10 +2,10 @@
 -- What isolation asks of a state: less than that it is sound.
 use Rattle.std.specs.Prelude.{◌≡◌, ◌≢◌, ℕ, ◌≤◌, ◌<◌, Bool, true, ◌&&◌, ◌||◌, nat_le, List, length, Some, None, slice_index_or}
 use Rattle.std.specs.FinSet as finite_set
-use Rattle.ffa_model.specs.declared.limits.TheConstants.{MOST_ENDPOINTS, MOST_SENDS}
+use Rattle.ffa_model.specs.declared.limits.TheConstants.{MOST_ENDPOINTS}
 use Rattle.ffa_model.specs.Numbers.{Identifier}
 use Rattle.ffa_model.specs.Lists.{is_in_run}
-use Rattle.ffa_model.specs.Transactions.{ceiling, handle_of}
+use Rattle.ffa_model.specs.Transactions.{ceiling, handle_of, most_sends}
 use Rattle.ffa_model.specs.declared.rights.Kind.TheVariants.{Donate}
 use Rattle.ffa_model.specs.declared.rights.Rights.{Rights}
 use Rattle.ffa_model.specs.Rights.{is_share, is_lend, is_within}
@@ -64,6 +64,6 @@ pub record IsSteady (s : State) : Type 0 where
   pub sends : length s.sent ≡ length s.parties
   pub numbers :
       (h : ℕ) (t : Transaction) → transaction_of s h ≡ Some t
-      → (n : ℕ) × (h ≡ handle_of t.sender n) × (n ≤ sent_by s t.sender) × (n ≤ MOST_SENDS)
+      → (n : ℕ) × (h ≡ handle_of t.sender n) × (n ≤ sent_by s t.sender) × (n ≤ most_sends s.ffa)
   pub buffers : (e : ℕ) (b : Buffers) → is_known s e ≡ true → buffers_of s e ≡ Some b → AreSteadyBuffers s e b
   pub bound : (entry : List ℕ) → finite_set.contains s.bound entry ≡ true → IsSteadyBinding entry

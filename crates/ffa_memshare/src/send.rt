@@ -53,7 +53,7 @@ impl<O: Room<OpenSlot> + Drop> Pool<O> {
     /// - `Denied`: a page does not belong to the caller, or is in an open transaction or in a buffer of an endpoint.
     /// - `Denied`: the sender's own right to a page is less than a grant or than zeros need.
     /// - `Denied`: on a machine of FF-A 1.2, the pages are of both worlds, or secure pages go to the normal world.
-    /// - `NoMemory`: `MOST_OPEN` transactions of the caller are open, or the caller has made `MOST_SENDS` sends.
+    /// - `NoMemory`: `MOST_OPEN` transactions of the caller are open, or the caller has made `Ffa::most_sends` sends.
     #[inline(always)]
     pub fn send<M: PhysMem, P: Room<KeptPage> + Drop>(
         &mut self,
@@ -74,7 +74,7 @@ impl<O: Room<OpenSlot> + Drop> Pool<O> {
             (p : ℕ) → first ≤ p → p < end → entry_at pages.old p ≡ None }
         ensures refusal { let parts = memory_parts (M.ram ram.old) layout.now pages.old buffers.now self.old in
             let offer = send_of call.now.ffa kind (descriptor_in (M.ram ram.old) buffers.now caller.0 call.now) in
-            result_err result ≡ first_failure (send_guards (scene_in parts) caller.0 call.now.transfer offer) }
+            result_err result ≡ first_failure (send_guards call.now.ffa (scene_in parts) caller.0 call.now.transfer offer) }
         ensures kept { OnErr result (self.new ≡ self.old) }
         ensures kept_pages { OnErr result (pages.new ≡ pages.old) }
         ensures kept_ram { OnErr result (M.ram ram.new ≡ M.ram ram.old) }

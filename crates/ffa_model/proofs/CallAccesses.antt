@@ -7,8 +7,10 @@ use Rattle.std.specs.Ordering.{nat_cmp}
 use Rattle.std.specs.FinMap as finite
 use Rattle.std.proofs.lemmas.Bool.{and_parts, cases_eq, cases_lt, false≢true, true≢false}
 use Rattle.std.proofs.lemmas.List.{get_or-set_same, get_or-set_other, get_or_past, length-set}
-use Rattle.ffa_model.specs.declared.limits.TheConstants.{MOST_SENDS}
+use Rattle.ffa_model.specs.declared.limits.TheConstants.{MOST_HANDLES}
 use Rattle.ffa_model.specs.declared.descriptor.RelinquishDesc.{RelinquishDesc}
+use Rattle.ffa_model.specs.declared.manifest.Ffa.{Ffa}
+use Rattle.ffa_model.specs.declared.manifest.Ffa.TheVariants.{V1_1, V1_2}
 use Rattle.ffa_model.specs.declared.rights.Kind.{Kind}
 use Rattle.ffa_model.specs.declared.rights.Kind.TheVariants.{Share, Lend, Donate}
 use Rattle.ffa_model.specs.declared.rights.Rights.{Rights}
@@ -20,7 +22,7 @@ use Rattle.ffa_model.specs.Memory.{page_with, with_pages, written, written_pages
 use Rattle.ffa_model.specs.Buffers.{filled, filled_pages}
 use Rattle.ffa_model.specs.ResponseBytes.{response_bytes}
 use Rattle.ffa_model.specs.SendDescriptor.{SendRecord}
-use Rattle.ffa_model.specs.Transactions.{closed, handle_of, holding, next_handle, not_holding, open_of, with_open, with_transaction, pages_in}
+use Rattle.ffa_model.specs.Transactions.{closed, handle_of, holding, most_sends, next_handle, not_holding, open_of, with_open, with_transaction, pages_in}
 use Rattle.ffa_model.specs.MemorySend.{is_told_normal, is_sendable, memory_sent, offered_in, transaction_sent}
 use Rattle.ffa_model.specs.MemoryRetrieve.{donated_if, donated_page, response_to, retrieved_right, with_retrieved, taken_in}
 use Rattle.ffa_model.specs.MemoryReturn.{reclaimed, relinquished_from}
@@ -86,6 +88,11 @@ sendable-unnamed s e p ranges all lt named =
 pub handle-parts : (e f a b : ℕ) → handle_of e a ≡ handle_of f b → a < b + 2 ^ 32 → b < a + 2 ^ 32 → (e ≡ f) × (a ≡ b)
 handle-parts e f a b same near_a near_b = (omega arith, omega arith)
 
+-- a sender has a handle for each send that it may make
+pub handles-enough : (ffa : Ffa) → most_sends ffa ≤ MOST_HANDLES
+handles-enough V1_1 = omega arith
+handles-enough V1_2 = omega arith
+
 -- the runner is an endpoint
 pub runner-known : (s : State) → IsSoundState s → IsKnown s s.runner
 runner-known s sound = subst (λ n. is_known_among n s.runner ≡ true) sound.sized.works sound.schedule.runner
@@ -99,10 +106,11 @@ handle-new s sound e known = of (transaction_of s (next_handle (open_of s) e)) r
     of (Some t) is =
         let good : IsSoundTransaction s (next_handle (open_of s) e) t = sound.transactions (next_handle (open_of s) e) t is in
         let number = good.number in
-        let most_e : sent_by s e ≤ MOST_SENDS = sound.sent e known in
-        let most_t : sent_by s t.sender ≤ MOST_SENDS = sound.sent t.sender good.sender in
+        let enough : most_sends s.ffa ≤ MOST_HANDLES = handles-enough s.ffa in
+        let most_e : sent_by s e ≤ most_sends s.ffa = sound.sent e known in
+        let most_t : sent_by s t.sender ≤ most_sends s.ffa = sound.sent t.sender good.sender in
         let below : number.0 ≤ sent_by s t.sender = number.3 in
-        let parts = handle-parts e t.sender (sent_by s e + 1) number.0 number.1 (omega (arith, most_e, number.2)) (omega (arith, most_t, below)) in
+        let parts = handle-parts e t.sender (sent_by s e + 1) number.0 number.1 (omega (arith, enough, most_e, number.2)) (omega (arith, enough, most_t, below)) in
         let sent : sent_by s e ≡ sent_by s t.sender = ap (sent_by s) parts.0 in
         let next : sent_by s e + 1 ≡ number.0 = parts.1 in
         absurd (omega arith)

@@ -27,9 +27,9 @@ row_checks function = option_map_or (λ row. row.checks) (find (λ row. row.func
 abbrev pub AreMade : List (Bool × Refusal) → List Refusal → Type 0
 AreMade guards all = (read : ℕ) × (map (λ guard. guard.1) guards ≡ made read all)
 
-pub send_listed : (c : Scene) (e : ℕ) (x : Transfer) (r : Option SendRecord) → AreMade (send_guards c e x r) (row_checks FFA_MEM_SHARE)
-send_listed c e x None = (0, refl)
-send_listed c e x (Some r) = (1, refl)
+pub send_listed : (ffa : Ffa) (c : Scene) (e : ℕ) (x : Transfer) (r : Option SendRecord) → AreMade (send_guards ffa c e x r) (row_checks FFA_MEM_SHARE)
+send_listed ffa c e x None = (0, refl)
+send_listed ffa c e x (Some r) = (1, refl)
 
 -- of the transaction that the handle names
 abbrev holding_listed : (ffa : Ffa) (c : Scene) (e : ℕ) (x : Transfer) (named : List ℕ) (d : RetrieveDesc) (full : Bool) (t : Option Transaction)

@@ -13,7 +13,7 @@ use Rattle.std.proofs.lemmas.List.{length-map, length-replicate}
 use Rattle.std.proofs.lemmas.List.FromFn.{length-enumerate_from}
 use Rattle.std.proofs.lemmas.List.Folds.{list_all-append, list_all-map}
 use Rattle.std.proofs.lemmas.Option.{none-some, same_Some}
-use Rattle.ffa_model.specs.declared.limits.TheConstants.{MOST_ENDPOINTS, MOST_OPEN, MOST_SENDS}
+use Rattle.ffa_model.specs.declared.limits.TheConstants.{MOST_ENDPOINTS, MOST_OPEN}
 use Rattle.ffa_model.specs.declared.endpoint.Endpoint.{Endpoint}
 use Rattle.ffa_model.specs.declared.endpoint.Region.{Region}
 use Rattle.ffa_model.specs.declared.manifest.Ffa.{Ffa}
@@ -22,6 +22,7 @@ use Rattle.ffa_model.specs.declared.schedule.Work.{Work}
 use Rattle.ffa_model.specs.Identifiers.{identifier, manager, place}
 use Rattle.ffa_model.specs.Manifest.{has_tables, is_accepted, is_ram_base}
 use Rattle.ffa_model.specs.Regions.{has_page, is_normal, normal_of, owned_regions, owner_in, regions_at, right_in}
+use Rattle.ffa_model.specs.Transactions.{most_sends}
 use Rattle.ffa_model.specs.First.{first, first_held, has_first_bitmaps, page_with_bytes, party_of}
 use Rattle.ffa_model.specs.State.{State, Page, Party, Transaction, Buffers, is_known_among, owner_of, page_at, transaction_of}
 use Rattle.ffa_model.specs.RunStates.{first_schedule}
@@ -174,7 +175,7 @@ module _ (ffa : Ffa) (base tables blocks : ℕ) (es : List Endpoint) (held : ℕ
         transactions = λ h t is. absurd (none-at h t is);
         one = λ p h k lt at_h at_k. absurd (false≢true (sym (ap (λ o. is_naming (first_held ffa base tables blocks es held) p o) (finite.get-empty nat_cmp h)) ∙ at_h));
         few = λ e known. none-counted (λ (t : Transaction). t.sender == e) _ none-open;
-        sent = λ e known. subst (λ n. n ≤ MOST_SENDS) (sym (same-all {X = ℕ} (length es) (place e) 0)) (omega arith);
+        sent = λ e known. subst (λ n. n ≤ most_sends ffa) (sym (same-all {X = ℕ} (length es) (place e) 0)) (omega arith);
         buffers = λ e b known is. absurd (none-some b (sym (same-all {X = Option Buffers} (length es) (place e) None) ∙ is));
         schedule = schedule;
         bound = λ entry is. absurd (false≢true (sym (finite_set.contains-empty (slice_cmp nat_cmp) entry) ∙ is));

@@ -7,14 +7,14 @@ use Rattle.std.specs.FinMap as finite
 use Rattle.std.proofs.lemmas.Bool.{and_parts, cases_eq, cases_lt, eq-eqb, false≢true, ne_eqb}
 use Rattle.std.proofs.lemmas.List.{get_or-set_same, get_or-set_other, get_or_past, length-set}
 use Rattle.std.proofs.lemmas.Option.{none-some, same_Some}
-use Rattle.ffa_model.specs.declared.limits.TheConstants.{MOST_OPEN, MOST_RANGES, MOST_SENDS}
+use Rattle.ffa_model.specs.declared.limits.TheConstants.{MOST_OPEN, MOST_RANGES}
 use Rattle.ffa_model.specs.Lists.{is_in_run}
 use Rattle.ffa_model.specs.Identifiers.{place}
 use Rattle.ffa_model.specs.State.{State, Page, Transaction, Buffers, owner_of, sent_by, transaction_of, buffers_of}
 use Rattle.ffa_model.specs.Access.{handle_at, held_by, is_naming, is_receiver, names, ownership_of}
 use Rattle.ffa_model.specs.Buffers.{is_usable}
 use Rattle.ffa_model.specs.SendDescriptor.{most_receivers}
-use Rattle.ffa_model.specs.Transactions.{are_writable, next_handle, open_of, open_count, opened, with_open, pages_in}
+use Rattle.ffa_model.specs.Transactions.{are_writable, most_sends, next_handle, open_of, open_count, opened, with_open, pages_in}
 use Rattle.ffa_model.specs.MemorySend.{are_grants_within, are_known, is_buffer, is_inside, is_sendable, is_told_normal}
 use Rattle.ffa_model.specs.SoundState.{IsKnown, IsSoundState, IsSoundTransaction, is_secure}
 use Rattle.ffa_model.proofs.Accesses.{once-beside, once-opened}
@@ -44,7 +44,7 @@ pub record IsSendable (s : State) (t : Transaction) : Type 0 where
   pub grants : list_all (are_grants_within (ownership_of s) t.receivers) (pages_in (ownership_of s) t.ranges) ≡ true
   pub zeroed : t.zero ≡ true → are_writable (ownership_of s) t.ranges ≡ true
   pub few : open_count (open_of s) t.sender < MOST_OPEN
-  pub sent : sent_by s t.sender < MOST_SENDS
+  pub sent : sent_by s t.sender < most_sends s.ffa
   pub unheld : (e : ℕ) → held_by t e ≡ None
   pub receivers : are_known (length s.parties) t.receivers ≡ true
   pub some_receivers : 1 ≤ length t.receivers
@@ -81,7 +81,7 @@ module _ (s : State) (sound : IsSoundState s) (t : Transaction) (good : IsSendab
   sent-grows : (e : ℕ) → sent_by s e ≤ sent_by after_send e
   sent-grows e = elim (sent-cases e) [ inl same ↦ omega (arith, same) | inr more ↦ omega (arith, more.0, more.1) ]
 
-  sent-few : (e : ℕ) → IsKnown s e → sent_by after_send e ≤ MOST_SENDS
+  sent-few : (e : ℕ) → IsKnown s e → sent_by after_send e ≤ most_sends s.ffa
   sent-few e known = elim (sent-cases e) [
     | inl same ↦ (let before = sound.sent e known in omega (arith, same, before))
     | inr more ↦ (let most = good.sent in omega (arith, more.0, most))

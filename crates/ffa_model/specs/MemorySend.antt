@@ -4,8 +4,9 @@ use Rattle.std.specs.Prelude.{ℕ, ◌+◌, ◌*◌, ◌==◌, Bool, true, false
 use Rattle.std.specs.List.{list_any, list_all}
 use Rattle.std.specs.Option.{option_map_or}
 use Rattle.std.specs.FinMap as map
-use Rattle.ffa_model.specs.declared.limits.TheConstants.{MOST_OPEN, MOST_SENDS}
+use Rattle.ffa_model.specs.declared.limits.TheConstants.{MOST_OPEN}
 use Rattle.ffa_model.specs.declared.endpoint.Region.{Region}
+use Rattle.ffa_model.specs.declared.manifest.Ffa.{Ffa}
 use Rattle.ffa_model.specs.declared.refusal.Refusal.{Refusal}
 use Rattle.ffa_model.specs.declared.refusal.Refusal.TheVariants.{DescriptorMalformed, SenderIsAnother, ReceiverUnknown, RangeOutside, PageUnsendable, GrantTooMuch, ZerosUnwritable, TransactionsFull, HandlesUsedUp, BuffersMissing, Fragmented, DescriptorTooLong, BufferAddressGiven, BufferPagesGiven, WorldsMixed}
 use Rattle.ffa_model.specs.declared.call.Reply.{Reply}
@@ -27,7 +28,7 @@ use Rattle.ffa_model.specs.Messages.{tx_bytes}
 use Rattle.ffa_model.specs.DescriptorPlaces.{Versioned, in_version}
 use Rattle.ffa_model.specs.SendDescriptor.{SendRecord, is_named, send_of, range_end}
 use Rattle.ffa_model.specs.declared.call.Transfer.{Transfer}
-use Rattle.ffa_model.specs.Transactions.{OpenTransactions, Scene, sends_of, next_handle, open_count, opened, pages_in, are_writable, open_of, scene_of, with_open}
+use Rattle.ffa_model.specs.Transactions.{OpenTransactions, Scene, most_sends, sends_of, next_handle, open_count, opened, pages_in, are_writable, open_of, scene_of, with_open}
 use Rattle.ffa_model.specs.Calls.{Service}
 
 abbrev pub are_known : ℕ → List Receiver → Bool
@@ -95,21 +96,21 @@ abbrev pub world_guards : Ownership → Option (List Region) → SendRecord → 
 world_guards ram normal send = (is_of_one_world ram normal send, WorldsMixed) ∷ []
 
 -- the checks of room for one more transaction
-abbrev pub room_guards : OpenTransactions → Identifier → List (Bool × Refusal)
-room_guards open_transactions e =
+abbrev pub room_guards : Ffa → OpenTransactions → Identifier → List (Bool × Refusal)
+room_guards ffa open_transactions e =
     (nat_lt (open_count open_transactions e) MOST_OPEN, TransactionsFull)
-    ∷ (nat_lt (sends_of open_transactions e) MOST_SENDS, HandlesUsedUp) ∷ []
+    ∷ (nat_lt (sends_of open_transactions e) (most_sends ffa), HandlesUsedUp) ∷ []
 
 -- the checks of what is offered, or None where the bytes are no descriptor
-abbrev pub offer_guards : Scene → Identifier → Option SendRecord → List (Bool × Refusal)
-offer_guards scene e None = (false, DescriptorMalformed) ∷ []
-offer_guards scene e (Some send) =
+abbrev pub offer_guards : Ffa → Scene → Identifier → Option SendRecord → List (Bool × Refusal)
+offer_guards ffa scene e None = (false, DescriptorMalformed) ∷ []
+offer_guards ffa scene e (Some send) =
     record_guards scene.endpoints scene.ram scene.buffers e send
-    ++ (world_guards scene.ram scene.normal send ++ room_guards scene.open_transactions e)
+    ++ (world_guards scene.ram scene.normal send ++ room_guards ffa scene.open_transactions e)
 
 -- the checks of a send by e in order, with what the descriptor says
-abbrev pub send_guards : Scene → Identifier → Transfer → Option SendRecord → List (Bool × Refusal)
-send_guards scene e transfer send = transfer_guards scene.buffers e transfer ++ offer_guards scene e send
+abbrev pub send_guards : Ffa → Scene → Identifier → Transfer → Option SendRecord → List (Bool × Refusal)
+send_guards ffa scene e transfer send = transfer_guards scene.buffers e transfer ++ offer_guards ffa scene e send
 
 -- the transaction that a send opens, of memory that is told to be non-secure or isn't: nobody holds it
 abbrev pub transaction_from : Kind → Bool → SendRecord → Transaction
@@ -156,7 +157,7 @@ memory_sent s kind (Some send) =
 abbrev pub memory_send : State → Kind → Transfer → Service
 memory_send s kind transfer =
     record {
-      guards = send_guards (scene_of s) s.runner transfer (send_read s kind transfer.total);
+      guards = send_guards s.ffa (scene_of s) s.runner transfer (send_read s kind transfer.total);
       state = memory_sent s kind (send_read s kind transfer.total);
       reply = handle_reply (next_handle (open_of s) s.runner);
     }

@@ -3,7 +3,7 @@
 use Rattle.std.specs.Prelude.{◌≡◌, ◌≢◌, ◌<◌, ◌≤◌, ℕ, ◌+◌, ◌*◌, ◌%◌, ◌^◌, Bool, true, false, not, ◌&&◌, is_some, nat_lt, List, length, Some, None, slice_get}
 use Rattle.std.specs.List.{list_all}
 use Rattle.std.specs.FinSet as finite_set
-use Rattle.ffa_model.specs.declared.limits.TheConstants.{MOST_BLOCKS, MOST_BUFFER_PAGES, MOST_ENDPOINTS, MOST_OPEN, MOST_RANGES, MOST_SENDS}
+use Rattle.ffa_model.specs.declared.limits.TheConstants.{MOST_BLOCKS, MOST_BUFFER_PAGES, MOST_ENDPOINTS, MOST_OPEN, MOST_RANGES}
 use Rattle.ffa_model.specs.declared.rights.Rights.{Rights}
 use Rattle.ffa_model.specs.declared.rights.Kind.TheVariants.{Donate}
 use Rattle.ffa_model.specs.Numbers.{Identifier, PageIndex}
@@ -17,7 +17,7 @@ use Rattle.ffa_model.specs.Buffers.{are_runs_apart, is_usable}
 use Rattle.ffa_model.specs.SendDescriptor.{most_receivers}
 use Rattle.ffa_model.specs.RunStates.{schedule_of}
 use Rattle.ffa_model.specs.Sound.{IsSound}
-use Rattle.ffa_model.specs.Transactions.{are_writable, ceiling, handle_of, open_of, open_count, pages_in}
+use Rattle.ffa_model.specs.Transactions.{are_writable, ceiling, handle_of, most_sends, open_of, open_count, pages_in}
 use Rattle.ffa_model.specs.MemorySend.{are_grants_within, are_known, is_inside, is_told_normal}
 use Rattle.ffa_model.specs.Notifications.{binding, class_of, has_bitmaps_in, is_bound, manager_class, notifications_of, receiver_bit}
 
@@ -132,7 +132,7 @@ pub record IsSoundState (s : State) : Type 0 where
       → is_naming s p (transaction_of s k) ≡ true → h ≡ k
   -- how many transactions of an endpoint are open, and how many it has sent
   pub few : (e : ℕ) → IsKnown s e → open_count (open_of s) e ≤ MOST_OPEN
-  pub sent : (e : ℕ) → IsKnown s e → sent_by s e ≤ MOST_SENDS
+  pub sent : (e : ℕ) → IsKnown s e → sent_by s e ≤ most_sends s.ffa
   pub buffers : (e : ℕ) (b : Buffers) → IsKnown s e → buffers_of s e ≡ Some b → IsSoundBuffers s e b
   pub schedule : IsSound (schedule_of s)
   pub bound : (entry : List ℕ) → finite_set.contains s.bound entry ≡ true → IsSoundBinding s entry

@@ -6,7 +6,10 @@ use Rattle.std.specs.Ordering.{nat_cmp}
 use Rattle.std.specs.List.{list_all}
 use Rattle.std.specs.Option.{option_and_then}
 use Rattle.std.specs.FinMap as map
+use Rattle.ffa_model.specs.declared.limits.TheConstants.{MOST_HANDLES, MOST_SENDS}
 use Rattle.ffa_model.specs.declared.endpoint.Region.{Region}
+use Rattle.ffa_model.specs.declared.manifest.Ffa.{Ffa}
+use Rattle.ffa_model.specs.declared.manifest.Ffa.TheVariants.{V1_1, V1_2}
 use Rattle.ffa_model.specs.declared.rights.Data.{Data}
 use Rattle.ffa_model.specs.declared.rights.Data.TheVariants.{Ro, Rw}
 use Rattle.ffa_model.specs.declared.rights.Rights.{Rights}
@@ -40,6 +43,11 @@ pub record Scene : Type 0 where
 -- the sender in the high half, and in the low half which of its sends it is, counted from 1
 abbrev pub handle_of : Identifier → ℕ → HandleNumber
 handle_of e number = word_of_halves number e
+
+-- the most sends of an endpoint: in FF-A 1.2 as many as there are handles of one sender
+abbrev pub most_sends : Ffa → ℕ
+most_sends V1_1 = MOST_SENDS
+most_sends V1_2 = MOST_HANDLES
 
 abbrev pub sends_of : OpenTransactions → Identifier → ℕ
 sends_of o e = slice_index o.sent (place e)

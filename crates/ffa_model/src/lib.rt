@@ -33,8 +33,8 @@ pub use flaw::{
 };
 pub use leaf::Leaf;
 pub use limits::{
-    MOST_BLOCKS, MOST_BUFFER_PAGES, MOST_ENDPOINTS, MOST_OPEN, MOST_PAGES, MOST_PROCESSORS,
-    MOST_RAM, MOST_RANGES, MOST_RECEIVERS, MOST_REGIONS, MOST_SENDS, SlotNumber,
+    MOST_BLOCKS, MOST_BUFFER_PAGES, MOST_ENDPOINTS, MOST_HANDLES, MOST_OPEN, MOST_PAGES,
+    MOST_PROCESSORS, MOST_RAM, MOST_RANGES, MOST_RECEIVERS, MOST_REGIONS, MOST_SENDS, SlotNumber,
 };
 pub use manifest::{Ffa, Manifest};
 pub use operation::{Act, Effect, ErrorCode, FaultKind, Op, Outcome, Size};

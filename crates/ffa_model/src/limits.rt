@@ -42,14 +42,14 @@ pub const MOST_RECEIVERS: usize = 4;
 
 /// The most ranges of a transaction.
 // The most is 244. A transaction that a sender reads back must fit one page of RX. It has at most 192 bytes, with four
-// receivers in the form of FF-A 1.2, and 16 bytes for each range. `play_writer` writes a descriptor into one page,
+// receivers in the form of FF-A 1.2, and 16 bytes for each range. `play_trace` writes a descriptor into one page,
 // which also allows 244. Each range needs 8 bytes of a slot, 16 bytes of the stack, and 16 bytes of the report of
 // changed access for C. The core compares ranges in the order of their addresses. `few-pages` of `ffa_memshare` proves
 // that all ranges together have fewer than 2^32 pages.
 pub const MOST_RANGES: usize = 64;
 
 /// The most open transactions of one sender.
-// The core searches the slots one by one. The generator has the same number of offers (`MOST_OFFERS` of `play_scenes`).
+// The core searches the slots one by one. The generator has the same number of offers (`MOST_OFFERS` of `play_generator`).
 pub const MOST_OPEN: usize = 16;
 
 /// The number of the slot of an open transaction, which the core stores for each page. This type has a value for each
@@ -57,7 +57,12 @@ pub const MOST_OPEN: usize = 16;
 // With `u16`, the entry of a page in `ffa_pages` has six bytes instead of four. The proofs hold for both types.
 pub type SlotNumber = u8;
 
-/// The most sends of one endpoint while the machine runs. Each send has its own number in its handle.
-// Numbers have 32 bits and begin at 1. So with a limit up to 4294967295, no two sends have the same handle
-// (`handle-parts`). No test can make that number of sends.
+/// The most sends of one endpoint while a machine of FF-A 1.1 runs. `Ffa::most_sends` has the limit of each version.
+// It is at most `MOST_HANDLES`.
 pub const MOST_SENDS: u32 = 65535;
+
+/// The most handles of one endpoint. Each send has its own number in its handle. In a machine of FF-A 1.2, this is
+/// also the most sends of one endpoint.
+// Numbers have 32 bits and begin at 1. So no two sends have the same handle (`handle-parts`). No test can make this
+// number of sends.
+pub const MOST_HANDLES: u32 = 4294967295;

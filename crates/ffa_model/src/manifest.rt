@@ -6,9 +6,10 @@ ghost use Rattle.ffa_model.specs.Manifest.{is_accepted, root_of};
 ghost use Rattle.ffa_model.specs.Regions.{has_page, right_in, regions_at, normal_of, owned_regions, owner_in};
 ghost use Rattle.ffa_model.specs.Endpoints.{have_uuids};
 ghost use Rattle.ffa_model.specs.Notices.{hears_notices};
+ghost use Rattle.ffa_model.specs.Transactions.{most_sends};
 
 use crate::endpoint::{Address, Endpoint, EndpointId, PageNo, regions_until};
-use crate::limits::MOST_ENDPOINTS;
+use crate::limits::{MOST_ENDPOINTS, MOST_HANDLES, MOST_SENDS};
 use crate::rights::Rights;
 use arrayvec::ArrayVec;
 
@@ -32,6 +33,17 @@ impl Ffa {
         match self {
             Ffa::V1_1 => false,
             Ffa::V1_2 => endpoint == EndpointId::NORMAL_WORLD,
+        }
+    }
+
+    /// Returns the most sends of one endpoint. After that number of sends, the machine refuses each send of the
+    /// endpoint.
+    pub fn most_sends(self) -> u32
+        ensures { result ≡ most_sends self }
+    {
+        match self {
+            Ffa::V1_1 => MOST_SENDS,
+            Ffa::V1_2 => MOST_HANDLES,
         }
     }
 }

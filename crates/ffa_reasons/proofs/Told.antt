@@ -134,11 +134,11 @@ module _ (x : Parts) (machine : IsManager x) where
 
       pub sent-told : (kind : Kind) → call.ffa ≡ x.manifest.ffa
           → option_map (sent_told (scene_in (memory_parts_in x)) e call.ffa kind call.transfer (descriptor_in x.ram x.kept.buffers e call))
-          (first_refusal (sends.send_guards (scene_in (memory_parts_in x)) e call.transfer (send_of call.ffa kind (descriptor_in x.ram x.kept.buffers e call))))
+          (first_refusal (sends.send_guards call.ffa (scene_in (memory_parts_in x)) e call.transfer (send_of call.ffa kind (descriptor_in x.ram x.kept.buffers e call))))
           ≡ option_map (sent_told (scene_of s) s.runner s.ffa kind call.transfer (sends.descriptor_in s call.transfer.total)) (first_refusal (sends.memory_send s kind call.transfer).guards)
       unfolding first
       sent-told kind serves =
-          λ i. option_map (sent_told (scene-is x machine i) (at i) (serves i) kind call.transfer (whole i)) (first_refusal (sends.send_guards (scene-is x machine i) (at i) call.transfer (send_of (serves i) kind (whole i))))
+          λ i. option_map (sent_told (scene-is x machine i) (at i) (serves i) kind call.transfer (whole i)) (first_refusal (sends.send_guards (serves i) (scene-is x machine i) (at i) call.transfer (send_of (serves i) kind (whole i))))
 
     module _ (refusal : Refusal) where
       pub map-failing : (tx rx pages : ℕ) → failing_map e (ownership_in x.kept.pages x.manifest.ram_base.0) tx rx pages refusal ≡ failing_map s.runner (ownership_of s) tx rx pages refusal

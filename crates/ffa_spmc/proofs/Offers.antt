@@ -122,7 +122,7 @@ module _ (x : Parts) (machine : IsManager x) (e : ℕ) (at : e ≡ x.kept.chain.
     read = sym read-is ∙ done.described
 
     good : IsOffer s r
-    good = offer s a r (sym (none ∙ ap (λ (o : Option SendRecord). first_failure (send_guards (scene_of s) s.runner a o)) read))
+    good = offer s a r (sym (none ∙ ap (λ (o : Option SendRecord). first_failure (send_guards s.ffa (scene_of s) s.runner a o)) read))
 
     -- what the parts say of its memory is what the state says
     told-normal : is_told_normal (ownership_in x.kept.pages x.kept.layout.base.0) (normal_in x.kept.layout) r.ranges
@@ -235,11 +235,12 @@ module _ (x : Parts) (machine : IsManager x) (e : ℕ) (at : e ≡ x.kept.chain.
 
   -- the clauses of the pool's call
   module _ (result : Result Value ErrorCode) (news : Option Changed)
-      (refusal : result_err result ≡ first_failure (send_guards (scene_in (memory_parts_in x)) e a (send_of call.ffa kind bytes)))
+      (refusal : result_err result ≡ first_failure (send_guards call.ffa (scene_in (memory_parts_in x)) e a (send_of call.ffa kind bytes)))
       (kept : OnErr result (pool ≡ x.kept.pool)) (kept_pages : OnErr result (pages ≡ x.kept.pages)) (kept_ram : OnErr result (ram ≡ x.ram))
       (handle : IfOk result (λ value. value ≡ Handle (next_handle (open_in x.kept.pool) e))) (done : OnOk result (IsDone news)) where
     refuses : result_err result ≡ first_failure guards
-    refuses = refusal ∙ (λ i. first_failure (send_guards (scene-is x machine i) (at i) a (read-is i)))
+    unfolding first
+    refuses = refusal ∙ (λ i. first_failure (send_guards (serves i) (scene-is x machine i) (at i) a (read-is i)))
 
     unchanged : OnErr result (after_offer ≡ x)
     unchanged = of result kept kept_pages kept_ram

@@ -17,6 +17,17 @@ pub struct Row {
 
 const RAM: u32 = super::RAM as u32;
 
+impl Row {
+    /// Returns the machine on which the check fails. It serves FF-A 1.1 if the caller must use up its sends, because it
+    /// has too many of them in FF-A 1.2.
+    pub fn machine(&self) -> Manifest {
+        match self.named {
+            HandlesUsedUp => MACHINE.with_ffa(Ffa::V1_1),
+            _ => MACHINE,
+        }
+    }
+}
+
 /// The normal world; 8001 and 8002, which take part in all; and 8003, which takes part in nothing, and has pages that
 /// it may not write to. The machine serves FF-A 1.2.
 pub const MACHINE: Manifest = Manifest::new(
@@ -169,7 +180,7 @@ fn described_next(send: &Send, place: u64) -> String {
     send.descriptor(TX, 0, 0x8001, page) + &send.line()
 }
 
-/// As many sends as there may be, each of which is reclaimed.
+/// As many sends as there may be in FF-A 1.1, each of which is reclaimed.
 fn all_handles() -> String {
     let sends = (1..=65535).map(|handle| format!("{}call 84000077 {handle:X}\n", LEND.line()));
     LEND.descriptor(TX, 0, 0x8001, PAGE) + &sends.collect::<String>()

@@ -33,7 +33,7 @@ pub const WORLD: u64 = 0;
 pub const FIRST: u64 = 0x8001;
 pub const SECOND: u64 = 0x8002;
 
-/// How many sends an endpoint may make.
+/// How many sends an endpoint of a machine of FF-A 1.1 may make.
 const MOST_SENDS: u64 = 65_535;
 
 /// An open transaction of one page, offered to one endpoint.

@@ -5,16 +5,14 @@ ghost use Rattle.std.specs.Prelude.{◌≡◌, ◌<◌, ◌++◌, ℕ, length, f
 ghost use Rattle.std.specs.List.{list_all};
 ghost use Rattle.std.specs.Result.{result_err};
 ghost use Rattle.arrayvec.specs.ArrayVec.{array_vec_len};
-ghost use Rattle.ffa_model.specs.declared.limits.TheConstants.{MOST_SENDS};
 ghost use Rattle.ffa_memshare.specs.declared.pool.TheConstants.{MOST_SLOTS};
 ghost use Rattle.ffa_model.specs.Calls.{first_refusal};
 ghost use Rattle.ffa_model.specs.DescriptorPlaces.{Versioned};
 ghost use Rattle.ffa_model.specs.Identifiers.{identifier, place};
 ghost use Rattle.ffa_model.specs.MemorySend.{are_known, is_inside, is_sendable, record_guards, room_guards, send_guards, world_guards};
-ghost use Rattle.ffa_model.specs.declared.manifest.Ffa.{Ffa};
 ghost use Rattle.ffa_model.specs.SendDescriptor.{is_named, send_of, send_record};
 ghost use Rattle.ffa_model.specs.Rights.{may_store};
-ghost use Rattle.ffa_model.specs.Transactions.{are_writable, next_handle, sends_of};
+ghost use Rattle.ffa_model.specs.Transactions.{are_writable, most_sends, next_handle, sends_of};
 ghost use Rattle.ffa_pages.specs.Entry.{Entry, own_right_at};
 ghost use Rattle.ffa_rxtx.specs.Parts.{ownership_in};
 ghost use Rattle.ffa_stage2.specs.Layout.{normal_in};
@@ -38,7 +36,7 @@ use crate::page_run::read_send;
 use crate::pool::Pool;
 use crate::transaction::OpenTransaction;
 use ffa_model::{
-    Address, Data, EndpointId, Kind, PageNo, Range, Receiver, Refusal, Room, SendDesc,
+    Address, Data, EndpointId, Ffa, Kind, PageNo, Range, Receiver, Refusal, Room, SendDesc,
 };
 use ffa_pages::{KeptPage, PageTable};
 use ffa_physmem::PhysMem;
@@ -67,14 +65,14 @@ impl<O: Room<OpenSlot> + Drop> Pool<O> {
         requires endpoints { length self.now.sent ≡ array_vec_len layout.now.regions }
         ensures refusal { let parts = memory_parts (M.ram ram.now) layout.now pages.now buffers.now self.now in
             let offer = send_of call.now.ffa kind (descriptor_in (M.ram ram.now) buffers.now caller.0 call.now) in
-            result_err result ≡ first_refusal (send_guards (scene_in parts) caller.0 call.now.transfer offer) }
+            result_err result ≡ first_refusal (send_guards call.now.ffa (scene_in parts) caller.0 call.now.transfer offer) }
         ensures handle { OnOk result (draft.new.transaction.handle ≡ next_handle (open_in self.now) caller.0) }
         ensures offered { let bytes = descriptor_in (M.ram ram.now) buffers.now caller.0 call.now in
             let opened = view_of draft.new.transaction in
             let normal = normal_in layout.now in
             OnOk result (DescribesOffer pages.now layout.now.base.0 normal caller.0 call.now.ffa kind bytes opened) }
         ensures free { IfOk result (IsFree self.now.slots (place caller.0)) }
-        ensures few { OnOk result (sends_of (open_in self.now) caller.0 < MOST_SENDS) }
+        ensures few { OnOk result (sends_of (open_in self.now) caller.0 < most_sends call.now.ffa) }
         ensures fits { IfOk result (λ slot. slot < MOST_SLOTS) }
     {
         let found = call.descriptor(ram, buffers, caller)?;
@@ -82,6 +80,7 @@ impl<O: Room<OpenSlot> + Drop> Pool<O> {
             return Err(Refusal::DescriptorMalformed);
         };
         self.check_offered(
+            call.ffa,
             layout,
             pages,
             buffers,
@@ -92,10 +91,11 @@ impl<O: Room<OpenSlot> + Drop> Pool<O> {
         )
     }
 
-    // Checks that an endpoint may send an offer, and makes the transaction of the offer. Returns a free slot for the
-    // transaction. An error is the first check that fails.
+    // Checks that an endpoint may send an offer, on a machine of this version of FF-A, and makes the transaction of the
+    // offer. Returns a free slot for the transaction. An error is the first check that fails.
     pub(crate) fn check_offered<P: Room<KeptPage> + Drop>(
         &self,
+        ffa: Ffa,
         layout: &Layout,
         pages: &PageTable<P>,
         buffers: &Buffers,
@@ -110,20 +110,20 @@ impl<O: Room<OpenSlot> + Drop> Pool<O> {
         ensures refusal { let owners = ownership_in pages.now layout.now.base.0 in
             let send = send_record offer.now in
             result_err result ≡ first_refusal (record_guards (array_vec_len layout.now.regions) owners buffers.now caller.0 send
-            ++ (world_guards owners (normal_in layout.now) send ++ room_guards (open_in self.now) caller.0)) }
+            ++ (world_guards owners (normal_in layout.now) send ++ room_guards ffa (open_in self.now) caller.0)) }
         ensures handle { OnOk result (transaction.new.handle ≡ next_handle (open_in self.now) caller.0) }
         ensures offered { let send = send_record offer.now in
-            (ffa : Ffa) (bytes : Versioned) → send_of ffa kind bytes ≡ Some send → is_named send.sender send.receivers ≡ false
+            (bytes : Versioned) → send_of ffa kind bytes ≡ Some send → is_named send.sender send.receivers ≡ false
             → OnOk result (DescribesOffer pages.now layout.now.base.0 (normal_in layout.now) caller.0 ffa kind bytes (view_of transaction.new)) }
         ensures free { IfOk result (IsFree self.now.slots (place caller.0)) }
-        ensures few { OnOk result (sends_of (open_in self.now) caller.0 < MOST_SENDS) }
+        ensures few { OnOk result (sends_of (open_in self.now) caller.0 < most_sends ffa) }
         ensures fits { IfOk result (λ slot. slot < MOST_SLOTS) }
     {
         let ranges = &mut transaction.ranges;
         check_offer(offer, layout, pages, buffers, caller, ranges)?;
         let receivers = offer.receivers.as_slice();
         let normal = check_worlds(layout, pages, receivers, &transaction.ranges)?;
-        let slot = self.room(caller)?;
+        let slot = self.room(ffa, caller)?;
         transaction.offer(self.next_handle(caller), kind, normal, offer);
         Ok(slot)
     }

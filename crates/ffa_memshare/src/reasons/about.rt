@@ -74,7 +74,7 @@ impl<O: Room<OpenSlot> + Drop> Pool<O> {
         ensures { let scene = scene_in (memory_parts (M.ram ram.now) layout.now pages.now buffers.now self.now) in
             let bytes = descriptor_in (M.ram ram.now) buffers.now caller.0 call.now in
             let told = sent_told scene caller.0 call.now.ffa kind call.now.transfer bytes in
-            result ≡ option_map told (first_refusal (send_guards scene caller.0 call.now.transfer (send_of call.now.ffa kind bytes))) }
+            result ≡ option_map told (first_refusal (send_guards call.now.ffa scene caller.0 call.now.transfer (send_of call.now.ffa kind bytes))) }
     {
         let found = match call.descriptor(ram, buffers, caller) {
             Ok(found) => found,
@@ -94,7 +94,9 @@ impl<O: Room<OpenSlot> + Drop> Pool<O> {
         }
         let offer = &draft.offer;
         let opened = &mut draft.transaction;
-        let checked = self.check_offered(layout, pages, buffers, caller, kind, offer, opened);
+        let checked = self.check_offered(
+            call.ffa, layout, pages, buffers, caller, kind, offer, opened,
+        );
         let refusal = checked.err()?;
         let told = Explained {
             about: named_by_send(offer, layout.regions.len(), refusal),

@@ -19,7 +19,7 @@ returns-in_err-check_offer-clause-refusal g c =
     let refused : result_err c.from_residual.result ≡ Some refusal = search of_calls in
     refused
     ∙ first-fail (record_guards (array_vec_len l.regions) ram c.args.buffers.now c.args.caller.0 send)
-    (world_guards ram (normal_in l) send ++ room_guards (open_in c.args.self.now) c.args.caller.0) refusal c.in_err-check_offer.ensures.refusal
+    (world_guards ram (normal_in l) send ++ room_guards c.args.ffa (open_in c.args.self.now) c.args.caller.0) refusal c.in_err-check_offer.ensures.refusal
 
 pub returns-in_err-normal-clause-refusal : goal.returns-in_err-normal-clause-refusal
 returns-in_err-normal-clause-refusal g c =
@@ -27,7 +27,7 @@ returns-in_err-normal-clause-refusal g c =
     let ram = ownership_in c.args.pages.now l.base.0 in
     let send = send_record c.args.offer.now in
     let worlds = world_guards ram (normal_in l) send in
-    let rooms = room_guards (open_in c.args.self.now) c.args.caller.0 in
+    let rooms = room_guards c.args.ffa (open_in c.args.self.now) c.args.caller.0 in
     let refusal = c.in_err-normal.field-0.0 in
     let refused : result_err c.from_residual-in_err-normal.result ≡ Some refusal = search of_calls in
     refused
@@ -40,7 +40,7 @@ returns-in_err-slot-clause-refusal g c =
     let ram = ownership_in c.args.pages.now l.base.0 in
     let send = send_record c.args.offer.now in
     let worlds = world_guards ram (normal_in l) send in
-    let rooms = room_guards (open_in c.args.self.now) c.args.caller.0 in
+    let rooms = room_guards c.args.ffa (open_in c.args.self.now) c.args.caller.0 in
     let refused : result_err c.from_residual-in_err-slot.result ≡ Some c.in_err-slot.field-0.0 = search of_calls in
     refused ∙ c.in_err-slot.ensures.refusal
     ∙ first-pass worlds rooms (c.in_ok-normal.ensures.refusal send (sym c.in_ok-check_offer.ensures.ranges) (sym c.as_slice-receivers.ensures.value))
@@ -52,13 +52,13 @@ returns-clause-refusal g c =
     let ram = ownership_in c.args.pages.now l.base.0 in
     let send = send_record c.args.offer.now in
     let worlds = world_guards ram (normal_in l) send in
-    let rooms = room_guards (open_in c.args.self.now) c.args.caller.0 in
+    let rooms = room_guards c.args.ffa (open_in c.args.self.now) c.args.caller.0 in
     c.in_ok-slot.ensures.refusal
     ∙ first-pass worlds rooms (c.in_ok-normal.ensures.refusal send (sym c.in_ok-check_offer.ensures.ranges) (sym c.as_slice-receivers.ensures.value))
     ∙ first-pass (record_guards (array_vec_len l.regions) ram c.args.buffers.now c.args.caller.0 send) (worlds ++ rooms) c.in_ok-check_offer.ensures.refusal
 
 pub returns-clause-offered : goal.returns-clause-offered
-returns-clause-offered g c ffa bytes described other =
+returns-clause-offered g c bytes described other =
     let send : SendRecord = send_record c.args.offer.now in
     record {
       offer = send;

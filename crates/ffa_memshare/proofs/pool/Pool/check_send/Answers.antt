@@ -16,6 +16,6 @@ check_offered-requires-clause-aligned g c =
 
 pub returns-clause-offered : goal.returns-clause-offered
 returns-clause-offered g c =
-    c.check_offered.ensures.offered c.args.call.now.ffa _
+    c.check_offered.ensures.offered _
     (sym (ap (λ b. send_of c.args.call.now.ffa c.args.kind (in_version c.args.call.now.version b)) c.in_ok-found.ensures.bytes) ∙ sym c.in-Ok.ensures.computed)
     (sent-other c.args.call.now.ffa c.args.kind (in_version c.args.call.now.version c.in_ok-found.found.bytes) (send_record c.read_send.new.offer) c.in-Ok.ensures.found)
