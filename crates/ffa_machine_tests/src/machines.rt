@@ -8,7 +8,7 @@ use ffa_reasons::Explained;
 use ffa_spmc::Machine;
 use ffa_tlb::{InTurn, Tlb, Translations};
 use play_player::Player;
-use play_syntax::PlayError;
+use play_trace::PlayError;
 use std::alloc::Global;
 use std::test::Fail;
 

@@ -7,9 +7,9 @@ use ffa_physmem::FlatRam;
 use ffa_reasons::Explained;
 use ffa_spmc::Machine;
 use fixtures::row_machine;
-use play_demo::built_in;
+use play_arguments::built_in;
 use play_player::{Begun, Player};
-use play_syntax::PlayError;
+use play_trace::PlayError;
 use std::alloc::Global;
 use std::test::Fail;
 

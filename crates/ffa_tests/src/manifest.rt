@@ -4,7 +4,7 @@
 use crate::checks::{same, same_at};
 use arrayvec::ArrayVec;
 use ffa_manifest::{ManifestError, PartsPlace, explain, of_parts, place_of_parts, read, read_for};
-use ffa_model::{Endpoint, Ffa, MOST_ENDPOINTS, Manifest, PageNo, Version};
+use ffa_model::{Endpoint, Ffa, MOST_ENDPOINTS, MOST_SENDS, Manifest, PageNo, Version};
 use fixtures::{FIRST, ROW_TEXT, row_machine};
 use std::alloc::{AllocError, Global};
 use std::test::Fail;
@@ -15,6 +15,14 @@ fn causes_by_name(rt: HostRuntime) -> Result<(), Fail> {
     let (memory, tables) = (ManifestError::NoMemory, ManifestError::TablesOutside);
     let names = format!(in rt.alloc(); "{memory}, {tables}")?;
     same(&rt, names.as_str(), "M1 NoMemory, M25 TablesOutside");
+    Ok(())
+}
+
+// In FF-A 1.2 an endpoint makes a send for each number of a handle, except 0.
+#[test]
+fn sends_of_each_version(rt: HostRuntime) -> Result<(), Fail> {
+    same(&rt, Ffa::V1_1.most_sends(), MOST_SENDS);
+    same(&rt, Ffa::V1_2.most_sends(), 0xFFFF_FFFF);
     Ok(())
 }
 

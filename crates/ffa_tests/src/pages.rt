@@ -4,7 +4,7 @@ use crate::checks::same;
 use ffa_model::{Data, EndpointId, PageNo, Rights};
 use ffa_pages::PageTable;
 use fixtures::FIRST;
-use play_demo::built_in;
+use play_arguments::built_in;
 use std::test::Fail;
 
 const WRITABLE: Rights = Rights {

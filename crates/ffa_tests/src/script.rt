@@ -3,7 +3,7 @@
 use crate::checks::same;
 use arrayvec::ArrayVec;
 use ffa_model::{Address, Data, EndpointId, Kind, Op, Range, Receiver, SendDesc, Size, Version};
-use play_writer::{
+use play_trace::{
     DescriptorContents, ScriptError, Unfit, put_descriptor, put_operation, put_stores,
 };
 use std::test::Fail;

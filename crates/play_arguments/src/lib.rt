@@ -1,5 +1,5 @@
 // SPDX-License-Identifier: MIT OR Apache-2.0
-//! Reads the command line of `ffaplay`: the command, its paths and its flags.
+//! Reads the command line of `ffaplay`: the command, its paths and its flags. It defines the built-in machine.
 #![tactic(auto)]
 
 ghost use Rattle.std.specs.Prelude.{◌≡◌, ◌⊎◌, IfOk, IfErr, Some, None, map};
@@ -10,6 +10,7 @@ ghost use Rattle.play_arguments.specs.Commands.{ask_of, asked_by, asked_in, prog
 // `clap` has a crate of its own, because each crate above it pays for it in each proof. It takes no allocator except
 // the heap's.
 mod command_line;
+mod demo;
 mod program;
 
 pub use clap::error::ErrorKind;
@@ -18,6 +19,7 @@ pub use command_line::{
     DescriptorWords, FFA_WANTED, GenerateOptions, MachineOptions, PROCESSORS_WANTED, PlayOptions,
     Purpose, Request, STANDARD_INPUT, Source, TestOptions, TextOptions, read_ffa, read_processors,
 };
+pub use demo::built_in;
 pub use program::{TOOLCHAIN, VERSION};
 use std::alloc::{AllocError, Global};
 

@@ -6,13 +6,13 @@ use Rattle.std.specs.Io.KnownBytes.{Consumes}
 use Rattle.std.proofs.KnownBytes.{Consumes-trans}
 use Rattle.std.proofs.lemmas.List.Elements.{filter-append}
 use Rattle.std.proofs.lemmas.List.Folds.{list_all-append}
-use Rattle.play_syntax.specs.TraceLines.{feed, has_no_feed, joined}
+use Rattle.play_trace.specs.TraceLines.{feed, has_no_feed, joined}
 use Rattle.play_player.proofs.Runs.{joined-append}
-use Rattle.play_forms.specs.Guards.{guards_among, is_guard}
-use Rattle.play_syntax.specs.declared.output.PlayError.{PlayError}
-use Rattle.play_forms.specs.Reading.{ReadsLine}
-use Rattle.play_forms.proofs.BadLines.{line_read}
-use Rattle.play_forms.proofs.Guarding.{few_guards}
+use Rattle.play_player.specs.Guards.{guards_among, is_guard}
+use Rattle.play_trace.specs.declared.output.PlayError.{PlayError}
+use Rattle.play_player.specs.Reading.{ReadsLine}
+use Rattle.play_player.proofs.BadLines.{line_read}
+use Rattle.play_player.proofs.Guarding.{few_guards}
 
 -- what was read are lines, of which so many are guards, and the next one has this number
 pub record Counted (had has : Option (List ℕ)) (number guards : ℕ) : Type 0 where

@@ -1,17 +1,17 @@
 -- SPDX-License-Identifier: MIT OR Apache-2.0
 -- What a command left, behind a flush: known bytes stay as they were.
-use Rattle.std.proofs.Common.{◌∙◌, Bool, List, ℕ, Option, None, Some}
+use Rattle.std.proofs.Common.{◌∙◌, Bool, true, false, List, ℕ, Option, None, Some}
 use Rattle.std.specs.Io.KnownBytes.{Appends, Keeps}
 use Rattle.ffa_playable.specs.Bench.{Bench}
 use Rattle.play_arguments.specs.declared.command_line.PlayOptions.{PlayOptions}
 use Rattle.play_arguments.specs.declared.command_line.Request.{Request}
 use Rattle.play_arguments.specs.declared.command_line.Request.TheVariants as request
-use Rattle.play_forms.specs.declared.form.Form.{Form}
+use Rattle.play_player.specs.declared.form.Form.{Form}
 use Rattle.play_report.specs.declared.failure.Failure.{Failure}
 use Rattle.play_report.specs.declared.failure.Failure.TheVariants as failure
-use Rattle.play_tasks.specs.Plays.{IsDoneBy, IsPlayed, KnownTask, StopsBy, UnmetBy}
-use Rattle.play_tasks.specs.declared.task.Task.TheVariants as task
-use Rattle.play_transcript.specs.Traces.{Wrote}
+use Rattle.play_commands.specs.Plays.{IsDoneBy, IsPlayed, KnownTask, StopsBy, UnmetBy}
+use Rattle.play_commands.specs.declared.task.Task.TheVariants as task
+use Rattle.play_generator.specs.Traces.{Wrote}
 use Rattle.play_commands.specs.Performed.{Differs, FailsFor, IsDone, IsQuiet, IsUnsaid, Played, Ran, StopsAt, UnmetAt}
 
 appended : (held mid holds : Option (List ℕ)) (text : List ℕ) → Keeps mid holds → Appends held mid text → Appends held holds text
@@ -52,14 +52,13 @@ module _ (ran : Ran) (holds : Option (List ℕ)) (kept : Keeps ran.streams.holds
   stops_by : (t : KnownTask) (start : Bench) (n : ℕ) → StopsBy t start ran.streams n → StopsBy t start (with_holds ran holds).streams n
   stops_by task.Plain start n (lines, ends, p, met) = (lines, ends, written _ p, met)
   stops_by (task.Formed form) start n (lines, ends, p, met) = (lines, ends, written _ p, met)
-  stops_by (task.Guarded form) start n (lines, ends, p, met) = (lines, ends, written _ p, met)
-  stops_by (task.GuardedToEnd form) start n (lines, ends, p, met) = (lines, ends, written _ p, met)
+  stops_by (task.Guarded form keep_going) start n (lines, ends, p, met) = (lines, ends, written _ p, met)
   stops_by task.Recorded start n (lines, ends, p) = (lines, ends, written _ p)
   stops_by (task.Session form) start n never = absurd never
   stops_by (task.Compare expected form) start n (p, still) = (p, quiet still)
 
   unmet_by : (t : KnownTask) (start : Bench) (n : ℕ) → UnmetBy t start ran.streams n → UnmetBy t start (with_holds ran holds).streams n
-  unmet_by (task.Guarded form) start n p = record {
+  unmet_by (task.Guarded form false) start n p = record {
     lines = p.lines;
     line = p.line;
     rest = p.rest;
@@ -73,7 +72,7 @@ module _ (ran : Ran) (holds : Option (List ℕ)) (kept : Keeps ran.streams.holds
     unmet = p.unmet;
     written = written _ p.written;
   }
-  unmet_by (task.GuardedToEnd form) start n p =
+  unmet_by (task.Guarded form true) start n p =
       record { lines = p.lines; each = p.each; all = p.all; more = p.more; unmet = p.unmet; written = written _ p.written }
   unmet_by other start n p = p
 

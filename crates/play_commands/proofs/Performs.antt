@@ -17,9 +17,9 @@ use Rattle.play_arguments.specs.declared.command_line.Source.{Source}
 use Rattle.play_arguments.specs.declared.command_line.Source.TheVariants.{BuiltIn, File}
 use Rattle.play_arguments.specs.declared.command_line.Request.{Request}
 use Rattle.play_arguments.specs.declared.command_line.Request.TheVariants as request
-use Rattle.play_tasks.specs.Plays.{KnownTask, PlayFails, Plays, Streams}
-use Rattle.play_tasks.specs.Starts.{begun_by}
-use Rattle.play_tasks.specs.Purposes.{IsTaskFor}
+use Rattle.play_commands.specs.Plays.{KnownTask, PlayFails, Plays, Streams}
+use Rattle.play_commands.specs.Starts.{begun_by}
+use Rattle.play_commands.specs.Purposes.{IsTaskFor}
 use Rattle.play_commands.specs.Performed.{Does, FailsFor, FailsToName, HasParts, IsDone, IsQuiet, IsRead, Played, Ran, SomeBadLine, SomeUnmetGuard, ffa_of, first_of, needs_manifest, needs_trace}
 
 -- COMMANDS THAT PLAY NO TRACE, OR NOT YET

@@ -8,25 +8,25 @@ use Rattle.ffa_model.specs.First.{first}
 use Rattle.ffa_model.specs.declared.manifest.Ffa.{Ffa}
 use Rattle.ffa_model.specs.declared.manifest.Ffa.TheVariants.{V1_1, V1_2}
 use Rattle.ffa_playable.specs.Bench.{Bench}
-use Rattle.play_demo.specs.Machine.{built_in_endpoints}
+use Rattle.play_arguments.specs.Machine.{built_in_endpoints}
 use Rattle.ffa_manifest.specs.Document.{Parts}
-use Rattle.play_syntax.specs.TraceLines.{has_no_feed, joined}
-use Rattle.play_syntax.specs.declared.output.PlayError.{PlayError}
-use Rattle.play_syntax.specs.declared.output.PlayError.TheVariants as play_error
-use Rattle.play_forms.specs.Guards.{guards_among}
-use Rattle.play_forms.specs.Reading.{IsAll}
-use Rattle.play_writer.specs.declared.unfit.Unfit.{Unfit}
-use Rattle.play_transcript.specs.Counting.{Tally}
-use Rattle.play_transcript.specs.Traces.{Wrote}
-use Rattle.play_descriptor.specs.declared.fault.WordsFault.{WordsFault}
+use Rattle.play_trace.specs.TraceLines.{has_no_feed, joined}
+use Rattle.play_trace.specs.declared.output.PlayError.{PlayError}
+use Rattle.play_trace.specs.declared.output.PlayError.TheVariants as play_error
+use Rattle.play_player.specs.Guards.{guards_among}
+use Rattle.play_player.specs.Reading.{IsAll}
+use Rattle.play_trace.specs.declared.unfit.Unfit.{Unfit}
+use Rattle.play_generator.specs.Counting.{Tally}
+use Rattle.play_generator.specs.Traces.{Wrote}
+use Rattle.play_report.specs.declared.fault.WordsFault.{WordsFault}
 use Rattle.play_report.specs.Descriptors.{AreWords, IsMisread, IsSaidFor, IsUnfit}
 use Rattle.play_report.specs.Manifests.{Describes, FailsUnplayed, IsAccepted, IsChecked, IsLaidOut, IsRefused, SomeCause, bytes_of}
 use Rattle.play_report.specs.declared.failure.Failure.{Failure}
 use Rattle.play_report.specs.declared.failure.Failure.TheVariants as failure
-use Rattle.play_tasks.specs.Counted.{CountsTrace}
-use Rattle.play_tasks.specs.Plays.{DiffersBy, IsDoneBy, KnownTask, StopsBy, Streams, UnmetBy, streams_of}
-use Rattle.play_tasks.specs.Starts.{begun_by}
-use Rattle.play_tasks.specs.Purposes.{IsTaskFor, is_session_for, is_strict_for}
+use Rattle.play_commands.specs.Counted.{CountsTrace}
+use Rattle.play_commands.specs.Plays.{DiffersBy, IsDoneBy, KnownTask, StopsBy, Streams, UnmetBy, streams_of}
+use Rattle.play_commands.specs.Starts.{begun_by}
+use Rattle.play_commands.specs.Purposes.{IsTaskFor, is_session_for, is_strict_for}
 use Rattle.play_arguments.specs.Commands.{Described, ask_of, manifest_of, trace_of}
 use Rattle.play_arguments.specs.declared.command_line.GenerateOptions.{GenerateOptions}
 use Rattle.play_arguments.specs.declared.command_line.PlayOptions.{PlayOptions}
@@ -34,7 +34,7 @@ use Rattle.play_arguments.specs.declared.command_line.Source.{Source}
 use Rattle.play_arguments.specs.declared.command_line.Source.TheVariants as source
 use Rattle.play_arguments.specs.declared.command_line.Request.{Request}
 use Rattle.play_arguments.specs.declared.command_line.Request.TheVariants as request
-use Rattle.play_files.specs.declared.commands.Files.{Files}
+use Rattle.play_commands.specs.declared.files.Files.{Files}
 
 -- the state in which a machine of these parts starts
 abbrev pub first_of : Parts → State

@@ -2,18 +2,18 @@
 //! Traces that are counted.
 ghost use Rattle.std.specs.Prelude.{Some};
 ghost use Rattle.play_commands.specs.Performed.{CountsFor};
-ghost use Rattle.play_tasks.specs.Counted.{tally_of};
+ghost use Rattle.play_commands.specs.Counted.{tally_of};
 
+use crate::machines::boot_and_count;
 use crate::playing::machine_of;
 use crate::program::Program;
 use play_arguments::PlayOptions;
+use play_generator::{Counts, Everyone};
 use play_report::{Failure, Notes};
-use play_tasks::Machines;
-use play_transcript::{Counts, Everyone};
 use std::alloc::Allocator;
 use std::io::Read;
 
-impl<M: Machines, A: Allocator + Copy> Program<M, A> {
+impl<A: Allocator + Copy> Program<A> {
     /// Plays a trace on the machine of its source, and counts what comes of its operations, behind what was counted before.
     pub(crate) fn count_play<'a, R: Read + Drop>(
         &self,
@@ -37,10 +37,7 @@ impl<M: Machines, A: Allocator + Copy> Program<M, A> {
         let mut everyone = Everyone::of(&manifest);
         everyone.runs_alone = processors.is_none();
         counts.everyone = counts.everyone.and(everyone);
-        match self
-            .machines
-            .count(self.alloc, &manifest, processors, trace, counts)
-        {
+        match boot_and_count(self.alloc, &manifest, processors, trace, counts) {
             Ok(()) => Ok(()),
             Err(error) => Err(Failure::of_play(options.trace, error, None)),
         }

@@ -1,21 +1,21 @@
 // SPDX-License-Identifier: MIT OR Apache-2.0
 //! Traces that are made up.
 ghost use Rattle.std.specs.Prelude.{IfErr, OnOk};
-ghost use Rattle.play_transcript.specs.Traces.{Wrote};
+ghost use Rattle.play_generator.specs.Traces.{Wrote};
 ghost use Rattle.play_report.specs.Failures.{IsShort};
 ghost use Rattle.play_report.specs.Manifests.{FailsUnplayed, bytes_of};
 ghost use Rattle.play_commands.specs.Performed.{IsMade};
 
+use crate::machines::boot_and_generate;
 use crate::program::Program;
 use ffa_model::Manifest;
 use play_arguments::GenerateOptions;
+use play_generator::{Counts, GenerateError};
 use play_report::{Failure, Notes, print_counts, read_manifest};
-use play_tasks::Machines;
-use play_transcript::{Counts, GenerateError};
 use std::alloc::Allocator;
 use std::io::{self, Write};
 
-impl<M: Machines, A: Allocator + Copy> Program<M, A> {
+impl<A: Allocator + Copy> Program<A> {
     /// Prints a trace of so many lines for the machine of a manifest, or, where that is asked for, how often each of its
     /// calls and accesses ended in which way.
     pub(crate) fn generate<'a, W: Write>(
@@ -65,10 +65,7 @@ impl<M: Machines, A: Allocator + Copy> Program<M, A> {
         ensures failed { IfErr result IsShort }
     {
         let (seed, lines) = (options.seed, options.lines);
-        match self
-            .machines
-            .generate(self.alloc, manifest, seed, lines, out)
-        {
+        match boot_and_generate(self.alloc, manifest, seed, lines, out) {
             Ok(counts) => Ok(counts),
             Err(GenerateError::NoMemory) => Err(Failure::NoMemory),
             Err(GenerateError::Write) => Err(Failure::Write),

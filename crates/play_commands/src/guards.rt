@@ -1,11 +1,11 @@
 // SPDX-License-Identifier: MIT OR Apache-2.0
 //! The guards of a trace, counted.
 ghost use Rattle.std.specs.Prelude.{◌≡◌, ◌≤◌, IfOk, [], ◌∷◌};
-ghost use Rattle.play_forms.specs.Guards.{guards_among};
+ghost use Rattle.play_player.specs.Guards.{guards_among};
 ghost use Rattle.play_commands.specs.Performed.{HasGuards};
 
-use play_forms::{guard_text, next_line};
-use play_syntax::PlayError;
+use play_player::{guard_text, next_line};
+use play_trace::PlayError;
 use std::alloc::Allocator;
 use std::io::{BufRead, BufReader, Read};
 

@@ -1,12 +1,11 @@
 // SPDX-License-Identifier: MIT OR Apache-2.0
 //! Traces in words, printed as ones of the plain format.
 
+use crate::Files;
 use ffa_model::MOST_PROCESSORS;
-use play_files::Files;
 use play_reasons::line_fault;
 use play_report::{Failure, Notes, tell, tell_more};
-use play_syntax::PlayError;
-use play_words::{LowerError, lower_line};
+use play_trace::{LowerError, PlayError, lower_line};
 use std::alloc::Allocator;
 use std::io::{BufRead, BufReader, ErrorKind, Read, Write};
 

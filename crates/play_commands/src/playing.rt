@@ -5,17 +5,17 @@ ghost use Rattle.ffa_manifest.specs.Document.{parts_of};
 ghost use Rattle.play_report.specs.Manifests.{bytes_of};
 ghost use Rattle.play_commands.specs.Performed.{Does, FailsToName, HasParts, is_session, ran};
 
+use crate::files::Files;
+use crate::machines::{Play, boot_and_play};
 use crate::program::Program;
+use crate::task::{Task, Trace};
 use ffa_model::{Ffa, Manifest};
-use play_arguments::{PlayOptions, Request, Source};
-use play_demo::built_in;
-use play_files::Files;
+use play_arguments::{PlayOptions, Request, Source, built_in};
 use play_report::{Failure, Notes, read_manifest};
-use play_tasks::{Machines, Play, Task, Trace};
 use std::alloc::{Allocator, Global};
 use std::io::{Read, Write};
 
-impl<M: Machines, A: Allocator + Copy> Program<M, A> {
+impl<A: Allocator + Copy> Program<A> {
     /// Plays a trace on the machine of its source, for its purpose.
     pub(crate) fn play<'a, R: Read + Drop, W: Write, E: Write>(
         &self,
@@ -44,8 +44,7 @@ impl<M: Machines, A: Allocator + Copy> Program<M, A> {
             task,
             trace,
         };
-        self.machines
-            .play(play, &manifest, out, err, &mut notes.guard)
+        boot_and_play(play, &manifest, out, err, &mut notes.guard)
     }
 }
 

@@ -2,33 +2,30 @@
 //! The commands of the program.
 ghost use Rattle.std.specs.Prelude.{◌≡◌, ◌≢◌, ◌≤◌, ◌⊎◌, true, false, Err, IfErr, IfOk, OnOk, Result, Some, is_some};
 ghost use Rattle.std.specs.Io.KnownBytes.{Keeps};
-ghost use Rattle.play_tasks.specs.Counted.{tally_of};
+ghost use Rattle.play_commands.specs.Counted.{tally_of};
 ghost use Rattle.play_report.specs.declared.failure.Failure.{Failure};
 ghost use Rattle.play_report.specs.declared.failure.Failure.TheVariants.{NoMemory};
 ghost use Rattle.play_commands.specs.Performed.{CountsFor, Differs, Does, FailsFor, HasGuards, IsDone, IsRead, IsUnsaid, is_session, is_strict, SomeBadLine, SomeRefusal, SomeUnmetGuard, needs_manifest, needs_trace, ran};
 
+use crate::files::Files;
 use crate::guards::count_guards;
-use crate::lowering::lower;
 use play_arguments::{PlayOptions, Purpose, Request};
-use play_files::{Commands, Files};
-use play_report::{Failure, Notes, accept, describe_for, lay_out, show, tell, tell_more};
-use play_syntax::PlayError;
-use play_tasks::Machines;
-use play_transcript::Counts;
+use play_generator::Counts;
+use play_report::{Failure, Notes, accept, describe_for, lay_out, tell, tell_more};
+use play_trace::PlayError;
 use std::alloc::{AllocError, Allocator, Global};
-use std::fmt::Display;
 use std::io::{self, ErrorKind, Read, Write};
 
-/// The commands, on the machines that this boots. A manifest is read with the memory of `manifests`; RAM, a machine's room
-/// and what plays a trace take that of `alloc`.
+/// What does the commands of the program, and with which memory.
 #[derive(Drop)]
-pub struct Program<M, A> {
-    pub machines: M,
+pub struct Program<A> {
+    /// The memory for a manifest while it is read.
     pub manifests: Global,
+    /// The memory for RAM, for what a machine stores, and for the play of a trace.
     pub alloc: A,
 }
 
-impl<M: Machines, A: Allocator + Copy> Commands for Program<M, A> {
+impl<A: Allocator + Copy> Program<A> {
     /// Does what was asked for, and answers the status with which the program ends.
     ///
     /// All output goes to `out`, which is flushed, and to `err` a line that says why a command isn't done, with a second
@@ -42,7 +39,7 @@ impl<M: Machines, A: Allocator + Copy> Commands for Program<M, A> {
     /// comments are nearly guards, and of a command that was done how many guards were met. An `out` that can't be flushed can't
     /// be written. This is told in place of a bad line, a difference and a guard, since what was printed is lost, and of no other
     /// fault, which was found before.
-    fn perform<R: Read + Drop, W: Write, E: Write>(
+    pub fn perform<R: Read + Drop, W: Write, E: Write>(
         &self,
         request: &Request<'_>,
         files: Files<'_, R>,
@@ -78,18 +75,7 @@ impl<M: Machines, A: Allocator + Copy> Commands for Program<M, A> {
         }
     }
 
-    fn lower<R: Read + Drop, W: Write, E: Write>(
-        &self,
-        path: &str,
-        files: Files<'_, R>,
-        verbose: bool,
-        out: &mut W,
-        err: &mut E,
-    ) -> u8 {
-        lower(self.alloc, path, files, verbose, out, err)
-    }
-
-    fn count<R: Read + Drop>(
+    pub(crate) fn count<R: Read + Drop>(
         &self,
         options: &PlayOptions<'_>,
         manifest: &[u8],
@@ -106,7 +92,7 @@ impl<M: Machines, A: Allocator + Copy> Commands for Program<M, A> {
         }
     }
 
-    fn guards<R: Read + Drop>(&self, trace: R) -> io::Result<u64>
+    pub(crate) fn guards<R: Read + Drop>(&self, trace: R) -> io::Result<u64>
         ensures { IfOk result (HasGuards (R.remaining trace)) }
     {
         match count_guards(self.alloc, trace) {
@@ -114,10 +100,6 @@ impl<M: Machines, A: Allocator + Copy> Commands for Program<M, A> {
             Err(PlayError::NoMemory) => Err(ErrorKind::OutOfMemory.into()),
             Err(_) => Err(ErrorKind::InvalidData.into()),
         }
-    }
-
-    fn show<T: Display, W: Write, E: Write>(&self, help: &T, out: &mut W, err: &mut E) -> u8 {
-        show(help, out, err)
     }
 }
 
@@ -149,7 +131,7 @@ fn is_strict(request: &Request<'_>) -> bool
     }
 }
 
-impl<M: Machines, A: Allocator + Copy> Program<M, A> {
+impl<A: Allocator + Copy> Program<A> {
     // Does what was asked for, and flushes what it wrote. Where that fails, a command isn't done, and no bad line,
     // difference or guard is told of, since the text is lost. Another failure was found before, and stays.
     // It has single clauses instead of one `Does`, because the check of that record after the flush ran out of memory.

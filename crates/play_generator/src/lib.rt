@@ -1,21 +1,49 @@
 // SPDX-License-Identifier: MIT OR Apache-2.0
-//! Generates a trace at random: it plays the scenes of `play_scenes` on the machine of a manifest. The same seed gives
-//! the same trace.
+//! Generates a trace at random, and counts what came of its operations.
 #![tactic(auto)]
 
 ghost use Rattle.std.specs.Prelude.{OnOk};
-ghost use Rattle.play_transcript.specs.Traces.{Wrote};
+ghost use Rattle.play_generator.specs.Traces.{Wrote};
 
+mod accesses;
+mod attempts;
+mod buffers;
+mod changes;
+mod counts;
+mod descriptors;
+mod dice;
+mod entries;
+mod generator;
+mod hoard;
 mod machine_stage;
+mod messages;
+mod notifications;
+mod offers;
+mod pages;
+mod report;
+mod retrieves;
+mod scenes;
+mod sends;
+mod setup;
+mod stage;
+mod turn;
+mod unreached;
+mod writing;
 
+pub use attempts::{Attempt, Change, Deed};
+pub use counts::{AccessKind, Counts};
+pub use entries::{TraceEntry, fit_store};
 use ffa_model::Manifest;
 use ffa_playable::Readable;
+pub use generator::Generator;
 use machine_stage::MachineStage;
-use play_scenes::Generator;
-use play_transcript::write_turns;
-pub use play_transcript::{AccessKind, Counts, Everyone, GenerateError, why_unreached};
+pub use pages::PAGE;
+pub use stage::Stage;
 use std::alloc::Allocator;
 use std::io::Write;
+pub use turn::actor_of;
+pub use unreached::{Everyone, why_unreached};
+pub use writing::{GenerateError, Turns, write_turns};
 
 /// Writes this number of lines of a trace for the machine of a manifest, which is in its first state. Returns how often
 /// each outcome came. The same seed gives the same lines. Fails if there is no memory, or if the writer fails or takes

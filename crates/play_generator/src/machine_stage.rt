@@ -2,11 +2,10 @@
 //! The machine on which a generator plays its scenes.
 ghost use Rattle.std.specs.Prelude.{◌<◌, length, IfSome};
 
+use crate::{Counts, GenerateError, PAGE, Stage, TraceEntry, fit_store};
 use ffa_model::function::FFA_ERROR;
 use ffa_model::{Effect, EndpointId, Manifest, Op, Outcome, PageNo, Rights};
 use ffa_playable::Readable;
-use play_scenes::{PAGE, Stage};
-use play_transcript::{Counts, GenerateError, TraceEntry, actor_of, fit_store};
 use std::alloc::Allocator;
 
 /// A machine, the lines of a turn, and how often each outcome came.
@@ -116,10 +115,6 @@ impl<M: Readable, A: Allocator + Copy> Stage for MachineStage<M, A> {
         }
     }
 
-    fn actor_of(&self, turn: u64) -> EndpointId {
-        actor_of(turn, self.machine.endpoints())
-    }
-
     fn runner(&self) -> EndpointId {
         self.machine.runner()
     }
@@ -140,14 +135,5 @@ impl<M: Readable, A: Allocator + Copy> Stage for MachineStage<M, A> {
         let page = page_at(&self.machine, address)?;
         let index = (address % PAGE / 8) as usize;
         Some(self.machine.word_at(page, index))
-    }
-
-    fn ram_base(&self) -> u64 {
-        u64::from(self.machine.ram_base().0)
-    }
-
-    fn ram_end(&self) -> u64 {
-        let base = u64::from(self.machine.ram_base().0);
-        base + PAGE * u64::from(self.machine.ram_pages())
     }
 }

@@ -11,11 +11,11 @@ use Rattle.std.proofs.lemmas.Grind.{flat_map-append}
 use Rattle.ffa_model.specs.declared.certificate.CertRun.{CertRun}
 use Rattle.ffa_model.specs.Certificate.{certificate, run_from, runs_from}
 use Rattle.ffa_model.specs.State.{State}
-use Rattle.play_syntax.specs.TraceText.{audit_text, cert_run_text, cert_text, ended, root_text}
-use Rattle.play_syntax.specs.Output.{TookFront, Writes}
-use Rattle.play_syntax.specs.declared.output.PlayError.{PlayError}
-use Rattle.play_syntax.specs.declared.output.PlayError.TheVariants.{Read, Write, NoMemory, BadLine}
-use Rattle.play_syntax.proofs.Fronts.{front_after, front_before}
+use Rattle.play_trace.specs.TraceText.{audit_text, cert_run_text, cert_text, ended, root_text}
+use Rattle.play_trace.specs.Output.{TookFront, Writes}
+use Rattle.play_trace.specs.declared.output.PlayError.{PlayError}
+use Rattle.play_trace.specs.declared.output.PlayError.TheVariants.{Read, Write, NoMemory, BadLine}
+use Rattle.play_trace.proofs.Fronts.{front_after, front_before}
 
 -- LISTS
 

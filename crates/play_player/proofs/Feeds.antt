@@ -7,11 +7,11 @@ use Rattle.std.proofs.lemmas.List.Folds.{list_all-append}
 use Rattle.std.proofs.lemmas.List.Quantifiers.{position-Some}
 use Rattle.std.proofs.lemmas.Bool.{eqb-true}
 use Rattle.ffa_playable.specs.Bench.{Bench}
-use Rattle.play_syntax.specs.TraceLines.{feed, joined, has_no_feed, is_good}
+use Rattle.play_trace.specs.TraceLines.{feed, joined, has_no_feed, is_good}
 use Rattle.play_player.specs.Played.{most_lines}
 use Rattle.play_player.specs.Feeding.{LineDone, LineEnded, Kept, IsNumbered, Feeding, Fed}
-use Rattle.play_syntax.specs.declared.output.PlayError.{PlayError}
-use Rattle.play_syntax.specs.declared.output.PlayError.TheVariants.{Read, Write, NoMemory, BadLine}
+use Rattle.play_trace.specs.declared.output.PlayError.{PlayError}
+use Rattle.play_trace.specs.declared.output.PlayError.TheVariants.{Read, Write, NoMemory, BadLine}
 use Rattle.play_player.proofs.Positions.{none_pass, none_before}
 use Rattle.play_player.proofs.Runs.{joined-append, did_none, did_more, did_one, did_kept, did_processors}
 

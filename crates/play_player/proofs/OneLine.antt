@@ -6,15 +6,15 @@ use Rattle.std.specs.Option.{option_map_or}
 use Rattle.std.specs.Io.KnownBytes.{Appends, Keeps}
 use Rattle.std.proofs.KnownBytes.{Appends-nil}
 use Rattle.ffa_playable.specs.Bench.{Bench, processors_of}
-use Rattle.play_syntax.specs.TraceLines.{Line, skip, line_of, line_in, is_good}
-use Rattle.play_syntax.specs.TraceText.{line_text, line_after, text_of, after}
+use Rattle.play_trace.specs.TraceLines.{Line, skip, line_of, line_in, is_good}
+use Rattle.play_trace.specs.TraceText.{line_text, line_after, text_of, after}
 use Rattle.ffa_model.specs.declared.operation.Outcome.{Outcome}
-use Rattle.play_syntax.specs.Output.{TookFront, Writes}
+use Rattle.play_trace.specs.Output.{TookFront, Writes}
 use Rattle.play_player.specs.Feeding.{LineDone, LineEnded}
-use Rattle.play_syntax.specs.Lines.{Answered}
-use Rattle.play_syntax.proofs.LineActs.{audit_in, good_in}
-use Rattle.play_syntax.specs.declared.output.PlayError.{PlayError}
-use Rattle.play_syntax.specs.declared.output.PlayError.TheVariants.{Read, Write, NoMemory, BadLine}
+use Rattle.play_trace.specs.Lines.{Answered}
+use Rattle.play_trace.proofs.LineActs.{audit_in, good_in}
+use Rattle.play_trace.specs.declared.output.PlayError.{PlayError}
+use Rattle.play_trace.specs.declared.output.PlayError.TheVariants.{Read, Write, NoMemory, BadLine}
 
 module _ (start now : Bench) (held holds : Option (List ℕ)) (number : ℕ) (bytes : List ℕ) (line : Line) (is : Some line ≡ line_in (processors_of start) bytes) (next : now ≡ line_after start line) where
   means : is_good (processors_of start) bytes ≡ true

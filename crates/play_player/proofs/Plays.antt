@@ -5,11 +5,11 @@ use Rattle.std.specs.Io.KnownBytes.{Consumes, IsAtEnd}
 use Rattle.std.proofs.KnownBytes.{Consumes-nil, Consumes-trans}
 use Rattle.std.proofs.lemmas.List.{nil_from_length}
 use Rattle.ffa_playable.specs.Bench.{Bench}
-use Rattle.play_syntax.specs.TraceLines.{feed, joined, is_good}
+use Rattle.play_trace.specs.TraceLines.{feed, joined, is_good}
 use Rattle.play_player.specs.Feeding.{Feeding, StopsIn}
 use Rattle.play_player.specs.Played.{Played}
-use Rattle.play_syntax.specs.declared.output.PlayError.{PlayError}
-use Rattle.play_syntax.specs.declared.output.PlayError.TheVariants.{Read, Write, NoMemory, BadLine}
+use Rattle.play_trace.specs.declared.output.PlayError.{PlayError}
+use Rattle.play_trace.specs.declared.output.PlayError.TheVariants.{Read, Write, NoMemory, BadLine}
 use Rattle.play_player.proofs.Runs.{joined-append, did_none, did_more, did_processors, began_more}
 
 -- the lines before, and then these bytes

@@ -5,9 +5,9 @@ use Rattle.std.specs.Io.KnownBytes.{Appends, Keeps}
 use Rattle.std.proofs.KnownBytes.{Appends-nil, Appends-trans, Appends-kept}
 use Rattle.std.proofs.lemmas.List.Folds.{list_all-append}
 use Rattle.ffa_playable.specs.Bench.{Bench, processors_of}
-use Rattle.play_syntax.specs.TraceLines.{feed, joined, is_line, are_lines, has_no_feed, is_good}
-use Rattle.play_syntax.specs.TraceText.{text, text_of, after, after_all}
-use Rattle.play_syntax.proofs.Benches.{processors-after-all}
+use Rattle.play_trace.specs.TraceLines.{feed, joined, is_line, are_lines, has_no_feed, is_good}
+use Rattle.play_trace.specs.TraceText.{text, text_of, after, after_all}
+use Rattle.play_trace.proofs.Benches.{processors-after-all}
 use Rattle.play_player.specs.Played.{Did, DidAndBegan}
 
 pub joined-append : (ls ms : List (List ℕ)) → joined (ls ++ ms) ≡ joined ls ++ joined ms

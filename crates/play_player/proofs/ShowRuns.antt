@@ -8,9 +8,9 @@ use Rattle.std.specs.Io.KnownBytes.{Appends}
 use Rattle.std.proofs.KnownBytes.{Appends-trans}
 use Rattle.ffa_model.specs.Alike.{is_alike}
 use Rattle.ffa_model.specs.State.{State}
-use Rattle.play_syntax.specs.TraceText.{begins_run, ends_run, runs_of, run_text, runner_text, show_text}
-use Rattle.play_syntax.specs.Output.{TookFront}
-use Rattle.play_syntax.proofs.Fronts.{front_after, front_before}
+use Rattle.play_trace.specs.TraceText.{begins_run, ends_run, runs_of, run_text, runner_text, show_text}
+use Rattle.play_trace.specs.Output.{TookFront}
+use Rattle.play_trace.proofs.Fronts.{front_after, front_before}
 
 -- the runs that are left, where one began at `first` and m pages are left from p on
 pub pending : State → ℕ → ℕ → ℕ → List (ℕ × ℕ)

@@ -4,11 +4,11 @@
 use Rattle.std.specs.Prelude.{◌≡◌, ◌≤◌, ℕ, ◌+◌, true, false, List, ◌∷◌, ◌++◌, length, Option, Some, Result, Ok, Err}
 use Rattle.std.specs.Io.KnownBytes.{Appends, Keeps}
 use Rattle.ffa_playable.specs.Bench.{Bench, processors_of}
-use Rattle.play_syntax.specs.TraceLines.{audit, feed, has_no_feed, is_good, joined, line_of}
-use Rattle.play_syntax.specs.TraceText.{text_of, after}
+use Rattle.play_trace.specs.TraceLines.{audit, feed, has_no_feed, is_good, joined, line_of}
+use Rattle.play_trace.specs.TraceText.{text_of, after}
 use Rattle.play_player.specs.Played.{Did, Began, DidAndBegan, most_lines}
-use Rattle.play_syntax.specs.declared.output.PlayError.{PlayError}
-use Rattle.play_syntax.specs.declared.output.PlayError.TheVariants.{Read, Write, NoMemory, BadLine}
+use Rattle.play_trace.specs.declared.output.PlayError.{PlayError}
+use Rattle.play_trace.specs.declared.output.PlayError.TheVariants.{Read, Write, NoMemory, BadLine}
 
 -- What follows speaks of what is played on before and now (`start`, `now`), and of what the writer held and holds.
 

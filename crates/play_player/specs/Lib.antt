@@ -1,4 +1,23 @@
 -- SPDX-License-Identifier: MIT OR Apache-2.0
+pub mod Asking
+pub mod Checked
+pub mod Compared
+pub mod Comparing
+pub mod Cut
 pub mod Feeding
+pub mod Followed
+pub mod Forms
+pub mod Guards
+pub mod Hints
+pub mod Listening
+pub mod Past
+pub mod Patterns
 pub mod Played
+pub mod Printed
+pub mod Reading
+pub mod Recorded
+pub mod SessionSteps
+pub mod Sessions
+pub mod Short
 pub mod Standing
+pub mod Steps

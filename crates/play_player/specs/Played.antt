@@ -3,11 +3,11 @@
 use Rattle.std.specs.Prelude.{◌≡◌, ◌≤◌, ◌<◌, ◌⊎◌, ℕ, ◌+◌, ◌-◌, ◌^◌, true, false, List, [], ◌∷◌, ◌++◌, length, Option, Result, Ok, Err}
 use Rattle.std.specs.Io.KnownBytes.{Appends, Consumes, IsAtEnd}
 use Rattle.ffa_playable.specs.Bench.{Bench, processors_of}
-use Rattle.play_syntax.specs.TraceLines.{feed, has_no_feed, is_good, are_lines, joined}
-use Rattle.play_syntax.specs.TraceText.{text, text_of, after, after_all}
-use Rattle.play_syntax.specs.Output.{TookFront}
-use Rattle.play_syntax.specs.declared.output.PlayError.{PlayError}
-use Rattle.play_syntax.specs.declared.output.PlayError.TheVariants.{Read, Write, NoMemory, BadLine}
+use Rattle.play_trace.specs.TraceLines.{feed, has_no_feed, is_good, are_lines, joined}
+use Rattle.play_trace.specs.TraceText.{text, text_of, after, after_all}
+use Rattle.play_trace.specs.Output.{TookFront}
+use Rattle.play_trace.specs.declared.output.PlayError.{PlayError}
+use Rattle.play_trace.specs.declared.output.PlayError.TheVariants.{Read, Write, NoMemory, BadLine}
 
 -- What follows speaks of how what is played on stands before and after, of what was written to the writer before and
 -- after, and of what was unread in the reader before and after.

@@ -5,13 +5,13 @@ ghost use Rattle.std.specs.List.{flat_map, range_with_len};
 ghost use Rattle.arrayvec.specs.ArrayVec.{array_vec_len};
 ghost use Rattle.ffa_model.specs.declared.limits.TheConstants.{MOST_ENDPOINTS};
 ghost use Rattle.ffa_model.specs.Certificate.{certificate};
-ghost use Rattle.play_syntax.specs.TraceText.{audit_text, cert_run_text, cert_text, ended, handle_text, rights_text, root_text, spaced};
-ghost use Rattle.play_syntax.specs.Output.{Writes, WritesIfRoom};
+ghost use Rattle.play_trace.specs.TraceText.{audit_text, cert_run_text, cert_text, ended, handle_text, rights_text, root_text, spaced};
+ghost use Rattle.play_trace.specs.Output.{Writes, WritesIfRoom};
 
 use ffa_model::{CertRun, EndpointId, PageNo};
 use ffa_playable::Playable;
-use play_syntax::output::{self, PlayError};
-use play_syntax::text::{self, CAPACITY, Text};
+use play_trace::output::{self, PlayError};
+use play_trace::text::{self, CAPACITY, Text};
 use std::alloc::{AllocError, Allocator};
 use std::io::Write;
 
@@ -94,7 +94,7 @@ fn verdict<P: Playable>(machine: &P, runs: &[CertRun]) -> &'static [u8]
 }
 
 // Appends the first line to no text yet.
-#[tactic(auto, unfolding(play_syntax::specs::TraceText::cert_text))]
+#[tactic(auto, unfolding(play_trace::specs::TraceText::cert_text))]
 fn push_cert<P: Playable>(text: &mut Text, machine: &P)
     requires { text.old.items ≡ [] }
     ensures items { text.new.items ≡ cert_text (P.bench machine.now).state }
@@ -121,7 +121,7 @@ fn push_roots<P: Playable>(text: &mut Text, machine: &P)
 }
 
 // Appends one of them.
-#[tactic(auto, unfolding(play_syntax::specs::TraceText::root_text))]
+#[tactic(auto, unfolding(play_trace::specs::TraceText::root_text))]
 fn push_root<P: Playable>(text: &mut Text, machine: &P, place: usize)
     requires room { array_vec_len text.old + 19 ≤ CAPACITY }
     requires few { place < MOST_ENDPOINTS }
@@ -136,7 +136,7 @@ fn push_root<P: Playable>(text: &mut Text, machine: &P, place: usize)
 }
 
 // Appends a run to no text yet.
-#[tactic(auto, unfolding(play_syntax::specs::TraceText::cert_run_text))]
+#[tactic(auto, unfolding(play_trace::specs::TraceText::cert_run_text))]
 fn push_run<P: Playable>(text: &mut Text, machine: &P, run: &CertRun)
     requires { text.old.items ≡ [] }
     ensures { text.new.items ≡ cert_run_text (P.bench machine.now).state run.now }

@@ -2,20 +2,20 @@
 //! The player of traces.
 ghost use Rattle.std.specs.Prelude.{◌≡◌, ◌*◌, codes, ◌==◌, true, [], ◌++◌, position, IfErr, IfOk, OnOk, Some, None, if◌then◌else◌};
 ghost use Rattle.std.specs.List.{flat_map};
-ghost use Rattle.play_syntax.specs.TraceLines.{call_of, feed, has_no_feed, operate, words_of};
+ghost use Rattle.play_trace.specs.TraceLines.{call_of, feed, has_no_feed, operate, words_of};
 ghost use Rattle.ffa_model.specs.Memory.{size_of};
 ghost use Rattle.ffa_playable.specs.Bench.{after_op, effect_of, processors_of};
-ghost use Rattle.play_syntax.specs.TraceText.{effect_text, ended, hex, interrupt_text, outcome_text, resumed_text, spaced};
+ghost use Rattle.play_trace.specs.TraceText.{effect_text, ended, hex, interrupt_text, outcome_text, resumed_text, spaced};
 ghost use Rattle.play_player.specs.Feeding.{LineDone, LineEnded, Kept, IsNumbered, Fed, Feeding, StopsIn};
-ghost use Rattle.play_syntax.specs.Lines.{Answered, meant};
-ghost use Rattle.play_syntax.specs.Output.{Writes};
+ghost use Rattle.play_trace.specs.Lines.{Answered, meant};
+ghost use Rattle.play_trace.specs.Output.{Writes};
 ghost use Rattle.play_player.specs.Played.{Played};
 
 use crate::{certificate, show};
 use ffa_model::{Effect, EndpointId, Op, Outcome, Size};
 use ffa_playable::Playable;
 use memchr::memchr;
-use play_syntax::{Line, PlayError, line, output, text};
+use play_trace::{Line, PlayError, line, output, text};
 use std::alloc::{Allocator, Global};
 use std::io::{Read, Write};
 use std::marker::Model;
@@ -439,7 +439,7 @@ fn write_interrupt<W: Write>(writer: &mut W, outcome: &Outcome) -> Result<(), Pl
 
 // Writes what an operation with this outcome prints. It is inlined, though plays on machines of four kinds call it.
 #[inline(always)]
-#[tactic(auto, unfolding(play_syntax::specs::TraceText::outcome_words))]
+#[tactic(auto, unfolding(play_trace::specs::TraceText::outcome_words))]
 fn write_outcome<W: Write>(writer: &mut W, op: &Op, outcome: &Outcome) -> Result<(), PlayError>
     ensures { Writes (W.contents writer.old) (W.contents writer.new) (outcome_text op.now outcome.now) result }
 {
@@ -453,7 +453,7 @@ fn write_outcome<W: Write>(writer: &mut W, op: &Op, outcome: &Outcome) -> Result
 
 // Writes data that an operation read, alike.
 #[inline(always)]
-#[tactic(auto, unfolding(play_syntax::specs::TraceText::outcome_words))]
+#[tactic(auto, unfolding(play_trace::specs::TraceText::outcome_words))]
 fn write_data<W: Write>(writer: &mut W, op: &Op, value: u64) -> Result<(), PlayError>
     ensures { Writes (W.contents writer.old) (W.contents writer.new) (outcome_text op.now (Outcome.Data value)) result }
 {

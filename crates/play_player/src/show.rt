@@ -8,13 +8,13 @@ ghost use Rattle.ffa_model.specs.Identifiers.{identifier};
 ghost use Rattle.ffa_model.specs.State.{identifiers};
 ghost use Rattle.ffa_model.specs.Access.{access};
 ghost use Rattle.ffa_model.specs.Alike.{is_alike, is_same_right};
-ghost use Rattle.play_syntax.specs.TraceText.{spaced, rights_text, ends_run, run_text, runner_text, show_text};
-ghost use Rattle.play_syntax.specs.Output.{Writes};
+ghost use Rattle.play_trace.specs.TraceText.{spaced, rights_text, ends_run, run_text, runner_text, show_text};
+ghost use Rattle.play_trace.specs.Output.{Writes};
 
 use ffa_model::{Address, EndpointId, PageNo, Rights};
 use ffa_playable::Playable;
-use play_syntax::output::{self, PlayError};
-use play_syntax::text::{self, CAPACITY, Text};
+use play_trace::output::{self, PlayError};
+use play_trace::text::{self, CAPACITY, Text};
 use std::io::Write;
 
 /// Writes the runner, and the longest runs of pages that have one owner and one access of each endpoint.
@@ -36,7 +36,7 @@ pub fn write_show<P: Playable, W: Write>(machine: &P, writer: &mut W) -> Result<
     Ok(())
 }
 
-#[tactic(auto, unfolding(play_syntax::specs::TraceText::runner_text))]
+#[tactic(auto, unfolding(play_trace::specs::TraceText::runner_text))]
 fn push_runner<P: Playable>(text: &mut Text, machine: &P)
     requires { text.old.items ≡ [] }
     ensures { text.new.items ≡ runner_text (P.bench machine.now).state }
@@ -47,7 +47,7 @@ fn push_runner<P: Playable>(text: &mut Text, machine: &P)
 }
 
 // Appends the run of pages from `first` to `last` to no text yet.
-#[tactic(auto, unfolding(play_syntax::specs::TraceText::run_text))]
+#[tactic(auto, unfolding(play_trace::specs::TraceText::run_text))]
 fn push_run<P: Playable>(text: &mut Text, machine: &P, first: u32, last: u32)
     requires empty { text.old.items ≡ [] }
     requires first { first < length (P.bench machine.now).state.pages }

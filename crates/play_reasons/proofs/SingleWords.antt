@@ -16,7 +16,7 @@ use Rattle.ffa_model.specs.contracts.flaw.RetrieveFlaw.{the_type as retrieve_fla
 use Rattle.ffa_model.specs.contracts.flaw.RelinquishFlaw.{the_type as relinquish_flaw}
 use denote.Enum.Declared.{tag_of}
 use Rattle.ffa_model.specs.Words.{place_of, words_at, words_of}
-use Rattle.play_syntax.specs.TraceLines.{has_no_feed}
+use Rattle.play_trace.specs.TraceLines.{has_no_feed}
 use Rattle.play_reasons.specs.FlawWords.{flaw_words_of}
 use Rattle.play_reasons.specs.declared.flaws.TheConstants.{HEADER, SEND, ACCESS, COMPOSITE, RANGE, RETRIEVE, RELINQUISH}
 

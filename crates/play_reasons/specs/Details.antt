@@ -10,7 +10,7 @@ use Rattle.ffa_playable.specs.declared.detail.Detail.{Detail}
 use Rattle.ffa_playable.specs.declared.detail.Detail.TheVariants.{Mend, Standing as Stands, Allowed}
 use Rattle.ffa_playable.specs.declared.detail.Standing.{Standing}
 use Rattle.ffa_playable.specs.declared.detail.Standing.TheVariants.{RunState}
-use Rattle.play_syntax.specs.TraceText.{hex}
+use Rattle.play_trace.specs.TraceText.{hex}
 use Rattle.play_reasons.specs.Mends.{allowed_text, mend_text}
 
 -- a run state by the standard's words, and the machine's own for the two that the standard lacks

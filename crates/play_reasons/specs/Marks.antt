@@ -2,7 +2,7 @@
 -- What stands in the text of a line beside its own words.
 use Rattle.std.specs.Prelude.{ℕ, List, [], ◌++◌, codes, decimal}
 use Rattle.std.specs.Option.{option_map_or}
-use Rattle.play_syntax.specs.TraceText.{spaced}
+use Rattle.play_trace.specs.TraceText.{spaced}
 use Rattle.ffa_abi.specs.Names.{call_name_of, error_name_of}
 
 -- the number of a line, as its text begins with it

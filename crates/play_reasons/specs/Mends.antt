@@ -17,7 +17,7 @@ use Rattle.ffa_mend.specs.declared.Mend.{Mend}
 use Rattle.ffa_mend.specs.declared.Mend.TheVariants as mends
 use Rattle.ffa_mend.specs.declared.Side.{Side}
 use Rattle.ffa_mend.specs.declared.Side.TheVariants.{Tx, Rx}
-use Rattle.play_syntax.specs.TraceText.{hex, rights_text}
+use Rattle.play_trace.specs.TraceText.{hex, rights_text}
 
 -- NUMBERS, all hexadecimal: as many digits as a value has of 1, 2, 4 or 8 bytes
 

@@ -21,8 +21,8 @@ use Rattle.ffa_model.specs.Registers.{low}
 use Rattle.ffa_playable.specs.declared.detail.Detail.{Detail}
 use Rattle.ffa_playable.specs.Bench.{Bench, processors_of, why_of}
 use Rattle.ffa_playable.specs.Standing.{detail}
-use Rattle.play_syntax.specs.TraceLines.{Line, operate, show, audit, skip, turn, interrupt, line_in}
-use Rattle.play_syntax.specs.TraceText.{bytes_moved, ended, hex}
+use Rattle.play_trace.specs.TraceLines.{Line, operate, show, audit, skip, turn, interrupt, line_in}
+use Rattle.play_trace.specs.TraceText.{bytes_moved, ended, hex}
 use Rattle.ffa_model.specs.Words.{words_of}
 use Rattle.ffa_mend.specs.Mend.{address_of}
 use Rattle.ffa_abi.specs.Names.{call_name_of}

@@ -1,12 +1,12 @@
 // SPDX-License-Identifier: MIT OR Apache-2.0
 //! The hexadecimal numbers in the line of a reason.
 ghost use Rattle.std.specs.Prelude.{◌≡◌, ◌++◌, ◌≤◌};
-ghost use Rattle.play_syntax.specs.TraceText.{hex};
+ghost use Rattle.play_trace.specs.TraceText.{hex};
 ghost use Rattle.play_reasons.specs.Drafts.{Puts};
 ghost use Rattle.play_reasons.specs.Mends.{address_digits, address_text, short_digits, short_text};
 
 use crate::draft::Draft;
-use play_syntax::text::{self, Text};
+use play_trace::text::{self, Text};
 use std::alloc::Allocator;
 
 impl<A: Allocator> Draft<A> {

@@ -3,7 +3,7 @@
 ghost use Rattle.std.specs.Prelude.{◌≡◌, ℕ, List, [], Option, None, Some, IfErr, IfOk, IfSome, if◌then◌else◌};
 ghost use Rattle.play_reasons.specs.Drafts.{Puts};
 
-use play_syntax::PlayError;
+use play_trace::PlayError;
 use std::alloc::Allocator;
 use std::fmt::Display;
 use std::io::Write;

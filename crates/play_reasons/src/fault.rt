@@ -3,7 +3,7 @@
 ghost use Rattle.std.specs.Prelude.{IsNone, ◌↔◌};
 ghost use Rattle.play_reasons.specs.Whole.{IsWhole};
 
-use play_syntax::{Line, line};
+use play_trace::{Line, line};
 use std::fmt;
 
 /// The first thing that is wrong with a line of a trace. It prints as one line.

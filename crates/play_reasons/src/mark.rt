@@ -3,7 +3,7 @@
 ghost use Rattle.std.specs.Prelude.{[]};
 ghost use Rattle.std.specs.Option.{option_map_or};
 ghost use Rattle.ffa_abi.specs.Names.{error_name_of};
-ghost use Rattle.play_syntax.specs.TraceText.{spaced};
+ghost use Rattle.play_trace.specs.TraceText.{spaced};
 ghost use Rattle.play_reasons.specs.Drafts.{Puts};
 ghost use Rattle.play_reasons.specs.Marks.{names_mark, number_mark};
 

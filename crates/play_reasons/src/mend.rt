@@ -1,7 +1,7 @@
 // SPDX-License-Identifier: MIT OR Apache-2.0
 //! Hints in the line of a reason, after what the check is about: the values that are allowed, and what to correct.
 ghost use Rattle.std.specs.Prelude.{◌≡◌, ◌++◌, ◌^◌, ◌<◌, ◌≤◌, Some, codes};
-ghost use Rattle.play_syntax.specs.TraceText.{hex, rights_text};
+ghost use Rattle.play_trace.specs.TraceText.{hex, rights_text};
 ghost use Rattle.ffa_model.specs.DescriptorPlaces.{told_access_size};
 ghost use Rattle.play_reasons.specs.Drafts.{Puts};
 ghost use Rattle.play_reasons.specs.Mends.{access_text, allowed_text, asked_text, beyond_text, buffer_text, bytes_text, cause_text, ends_text, form_text, holder_text, kind_text, kinds_text, mend_text, message_text, misplaced_text, one_text, outside_text, pending_text, room_text, side_text, span_text, steps_text, tag_text, version_text, wanted_text, word_text, work_text};

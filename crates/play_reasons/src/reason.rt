@@ -1,7 +1,7 @@
 // SPDX-License-Identifier: MIT OR Apache-2.0
 //! The line that says why an operation is refused.
 ghost use Rattle.std.specs.Prelude.{◌≡◌, ◌++◌, ◌≤◌, None, Some, codes, option_map};
-ghost use Rattle.play_syntax.specs.TraceText.{bytes_moved};
+ghost use Rattle.play_trace.specs.TraceText.{bytes_moved};
 ghost use Rattle.ffa_model.specs.Words.{words_of};
 ghost use Rattle.ffa_mend.specs.Mend.{address_of};
 ghost use Rattle.play_reasons.specs.Closer.{closer_text};

@@ -1,3 +1,5 @@
 -- SPDX-License-Identifier: MIT OR Apache-2.0
-pub mod Results
+pub mod Lists
+pub mod Marks
 pub mod Refusals
+pub mod Results

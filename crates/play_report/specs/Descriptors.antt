@@ -3,18 +3,18 @@
 use denote.Ref.{Bor}
 use Rattle.std.specs.Prelude.{◌≡◌, ◌⊎◌, ℕ, true, is_some, List, [], Option, None, Some, Ok, Err, ⊤}
 use Rattle.std.specs.Io.KnownBytes.{Appends, Keeps}
-use Rattle.play_writer.specs.declared.unfit.Unfit.{Unfit}
+use Rattle.play_trace.specs.declared.unfit.Unfit.{Unfit}
 use Rattle.ffa_model.specs.declared.manifest.Ffa.TheVariants.{V1_2}
 use Rattle.ffa_model.specs.declared.operation.Op.TheVariants.{Call}
-use Rattle.play_writer.specs.Script.{GrowsBy}
-use Rattle.play_writer.specs.Written.{GrowsByDescriptor, reclaim_with, unfit_of}
+use Rattle.play_trace.specs.Script.{GrowsBy}
+use Rattle.play_trace.specs.Written.{GrowsByDescriptor, reclaim_with, unfit_of}
 use Rattle.play_arguments.specs.Commands.{Described, words_of}
 use Rattle.play_arguments.specs.declared.command_line.DescriptorWords.{DescriptorWords}
-use Rattle.play_descriptor.specs.Told.{asked}
-use Rattle.play_descriptor.specs.Versions.{versioned}
-use Rattle.play_descriptor.specs.declared.fault.WordsFault.{WordsFault}
-use Rattle.play_descriptor.specs.declared.told.Asked.{Asked}
-use Rattle.play_descriptor.specs.declared.told.Asked.TheVariants.{Descriptor, Reclaim}
+use Rattle.play_report.specs.Told.{asked}
+use Rattle.play_report.specs.Versions.{versioned}
+use Rattle.play_report.specs.declared.fault.WordsFault.{WordsFault}
+use Rattle.play_report.specs.declared.told.Asked.{Asked}
+use Rattle.play_report.specs.declared.told.Asked.TheVariants.{Descriptor, Reclaim}
 use Rattle.ffa_manifest.specs.Document.{Parts}
 use Rattle.play_report.specs.Manifests.{Describes, FailsUnplayed}
 use Rattle.play_report.specs.declared.failure.Failure.{Failure}

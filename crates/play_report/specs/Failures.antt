@@ -1,8 +1,8 @@
 -- SPDX-License-Identifier: MIT OR Apache-2.0
 -- Why a command isn't done.
 use Rattle.std.specs.Prelude.{◌≡◌, ℕ, Option, ⊤}
-use Rattle.play_syntax.specs.declared.output.PlayError.{PlayError}
-use Rattle.play_syntax.specs.declared.output.PlayError.TheVariants as play_error
+use Rattle.play_trace.specs.declared.output.PlayError.{PlayError}
+use Rattle.play_trace.specs.declared.output.PlayError.TheVariants as play_error
 use Rattle.play_report.specs.declared.failure.Failure.{Failure}
 use Rattle.play_report.specs.declared.failure.LineFlaw.{LineFlaw}
 use Rattle.play_report.specs.declared.failure.Failure.TheVariants as failure

@@ -1,7 +1,7 @@
 -- SPDX-License-Identifier: MIT OR Apache-2.0
 -- What is told of guards.
 use Rattle.std.specs.Prelude.{ℕ, List, ◌++◌, codes, decimal, flat_map}
-use Rattle.play_syntax.specs.TraceText.{ended}
+use Rattle.play_trace.specs.TraceText.{ended}
 
 -- the comment in the line of this number is nearly a guard
 abbrev pub near_line : ℕ → List ℕ

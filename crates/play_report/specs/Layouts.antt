@@ -7,7 +7,7 @@ use Rattle.ffa_model.specs.declared.endpoint.Endpoint.{Endpoint}
 use Rattle.ffa_model.specs.Lists.{listed}
 use Rattle.ffa_model.specs.Identifiers.{identifier}
 use Rattle.ffa_model.specs.Manifest.{ram_end, root_of, tables_begin, tables_end}
-use Rattle.play_syntax.specs.TraceText.{hex, spaced, ended, rights_text}
+use Rattle.play_trace.specs.TraceText.{hex, spaced, ended, rights_text}
 use Rattle.ffa_manifest.specs.Document.{Parts}
 
 -- an endpoint by its place, and the addresses of its level 1, its level 2 and its first level 3 page

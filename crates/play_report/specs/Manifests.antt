@@ -4,7 +4,7 @@ use denote.Ref.{Bor}
 use Rattle.std.specs.Prelude.{◌≡◌, ◌⊎◌, ℕ, Bool, List, IsUtf8, Option, None, Some, Ok, Err, codes, option_map, ⊤}
 use Rattle.std.specs.Io.KnownBytes.{Appends, Keeps}
 use Rattle.ffa_model.specs.declared.manifest.Ffa.{Ffa}
-use Rattle.play_syntax.specs.TraceText.{ended}
+use Rattle.play_trace.specs.TraceText.{ended}
 use Rattle.ffa_manifest.specs.Document.{Parts, machine_of}
 use Rattle.ffa_manifest.specs.declared.error.ManifestError.{ManifestError}
 use Rattle.ffa_manifest.specs.declared.error.ManifestError.TheVariants.{Toml}

@@ -2,7 +2,7 @@
 //! The fault of a line that names its call, and the name that its writer may have meant.
 use ffa_manifest::nearest;
 use ffa_model::CALLS;
-use play_words::{ARGUMENTS, Cause, LowerError, WordsFault, lower_line};
+use play_trace::{ARGUMENTS, Cause, LowerError, WordsFault, lower_line};
 use std::alloc::Allocator;
 use std::{fmt, str};
 

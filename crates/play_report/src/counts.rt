@@ -5,7 +5,7 @@ ghost use Rattle.play_report.specs.Failures.{IsShort};
 
 use crate::failure::Failure;
 use crate::output::write;
-use play_transcript::Counts;
+use play_generator::Counts;
 use std::alloc::Allocator;
 use std::io::Write;
 

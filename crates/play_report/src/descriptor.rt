@@ -2,8 +2,8 @@
 //! The lines of a trace that write a descriptor.
 ghost use Rattle.std.specs.Prelude.{◌≡◌, IfErr, OnOk};
 ghost use Rattle.play_arguments.specs.Commands.{words_of};
-ghost use Rattle.play_descriptor.specs.Told.{HasAlignedTx};
-ghost use Rattle.play_writer.specs.Written.{unfit_told};
+ghost use Rattle.play_report.specs.Told.{HasAlignedTx};
+ghost use Rattle.play_trace.specs.Written.{unfit_told};
 ghost use Rattle.play_report.specs.Manifests.{bytes_of};
 ghost use Rattle.play_report.specs.Descriptors.{FailsToSay, FailsToSayFor, Grows, IsSaid, IsSaidFor, unfit_asked};
 
@@ -11,10 +11,10 @@ use crate::failure::Failure;
 use crate::manifest::read_manifest;
 use crate::notes::Notes;
 use crate::output::write;
+use crate::{Asked, read_words, words_for};
 use ffa_model::Ffa;
 use play_arguments::DescriptorWords;
-use play_descriptor::{Asked, read_words, words_for};
-use play_writer::{ScriptError, put_descriptor, put_reclaim};
+use play_trace::{ScriptError, put_descriptor, put_reclaim};
 use std::alloc::{Allocator, Global};
 use std::io::Write;
 

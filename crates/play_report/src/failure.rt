@@ -3,13 +3,12 @@
 ghost use Rattle.std.specs.Prelude.{◌≡◌};
 ghost use Rattle.play_report.specs.Failures.{StopsFor, failure_of, status_of};
 
+use crate::WordsFault;
 use crate::call_fault::CallFault;
 use crate::excerpt::Excerpt;
 use ffa_manifest::ManifestError;
-use play_descriptor::WordsFault;
 use play_reasons::{LineFault, line_fault};
-use play_syntax::PlayError;
-use play_writer::Unfit;
+use play_trace::{PlayError, Unfit};
 use std::alloc::Allocator;
 use std::fmt;
 use thiserror::Error;

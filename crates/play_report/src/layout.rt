@@ -7,7 +7,7 @@ ghost use Rattle.ffa_manifest.specs.Document.{parts_of};
 ghost use Rattle.play_report.specs.Layouts.{endpoint_line, layout_text};
 
 use ffa_model::{EndpointId, Manifest};
-use play_syntax::text::{self, CAPACITY, Text};
+use play_trace::text::{self, CAPACITY, Text};
 
 /// Appends a line for each endpoint to an empty text. The line has the addresses of the endpoint's level 1 page, its
 /// level 2 page and its first level 3 page.

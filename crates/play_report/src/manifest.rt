@@ -13,7 +13,7 @@ use crate::output::write;
 use crate::regions::put_regions;
 use ffa_manifest::ManifestError;
 use ffa_model::{Ffa, Manifest};
-use play_syntax::text::Text;
+use play_trace::text::Text;
 use std::alloc::{AllocError, Allocator, Global};
 use std::io::Write;
 

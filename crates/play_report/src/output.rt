@@ -11,5 +11,5 @@ pub(crate) fn write<'a, W: Write>(out: &mut W, text: &[u8]) -> Result<(), Failur
     ensures written { OnOk result (Appends (W.contents out.old) (W.contents out.new) text.now) }
     ensures failed { IfErr result (λ failure. failure ≡ Failure.Write) }
 {
-    play_syntax::output::write_text(out, text).map_err(|_| Failure::Write)
+    play_trace::output::write_text(out, text).map_err(|_| Failure::Write)
 }

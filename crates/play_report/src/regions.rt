@@ -8,7 +8,7 @@ ghost use Rattle.ffa_manifest.specs.Document.{parts_of};
 ghost use Rattle.play_report.specs.Layouts.{region_line, region_lines, regions_text, span_line, spans_text};
 
 use ffa_model::{EndpointId, Manifest, Region};
-use play_syntax::text::{self, CAPACITY, Text};
+use play_trace::text::{self, CAPACITY, Text};
 use std::alloc::AllocError;
 
 /// Appends a line for each region of each endpoint. Then it appends a line for the table pages, a line for the pages

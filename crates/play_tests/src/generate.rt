@@ -1,7 +1,7 @@
 // SPDX-License-Identifier: MIT OR Apache-2.0
 //! Comments of a generated trace.
 use ffa_model::EndpointId;
-use play_transcript::{Attempt, Change, Deed, GenerateError, TraceEntry, Turns, write_turns};
+use play_generator::{Attempt, Change, Deed, GenerateError, TraceEntry, Turns, write_turns};
 use std::test::Fail;
 
 // A source of turns that repeats a turn of three entries.

@@ -5,10 +5,9 @@ use crate::checks::{holds, same};
 use crate::machines::{FlatPlayer, booted};
 use ffa_model::FaultKind;
 use ffa_reasons::Explained;
-use play_demo::built_in;
-use play_forms::{CompareError, Form, Mismatch, Printer, Sides, compare, play, play_session};
-use play_player::Player;
-use play_syntax::{PlayError, text};
+use play_arguments::built_in;
+use play_player::{Comparer, ComparisonStop, Form, Player, Printer, play, play_session};
+use play_trace::{PlayError, text};
 use std::alloc::Global;
 use std::process::Abort;
 use std::test::Fail;
@@ -75,18 +74,28 @@ fn tells_each_fault_by_its_name(rt: HostRuntime) {
     same(&rt, line, b"fault outside-ram\n".as_slice());
 }
 
-// Returns the place where a play of the trace first differs from an empty text.
-fn compared_on(player: &mut FlatPlayer, alloc: Global) -> Result<Option<Mismatch>, CompareError> {
-    let (mut left, mut wanted) = (TRACE.as_bytes(), b"".as_slice());
-    let (form, mut sides) = (Form::default(), Sides::new(alloc));
-    compare(player, alloc, form, &mut left, &mut wanted, &mut sides)
+// Returns why a comparison of the trace's text with an empty text stops.
+fn compared_on(
+    player: &mut FlatPlayer,
+    alloc: Global,
+) -> Result<Option<ComparisonStop>, PlayError> {
+    let (mut left, mut out, mut bytes) = (TRACE.as_bytes(), Vec::new(alloc), Vec::new(alloc));
+    let mut comparer = Comparer::new(alloc, Form::default(), b"".as_slice());
+    play(
+        player,
+        alloc,
+        &mut left,
+        &mut out,
+        &mut comparer,
+        &mut bytes,
+    )
 }
 
 #[test]
 fn goes_on_behind_a_difference(rt: HostRuntime) -> Result<(), Fail> {
     let mut player = player(rt.alloc())?;
     let found = compared_on(&mut player, rt.alloc());
-    holds(&rt, matches!(found, Ok(Some(_))));
+    holds(&rt, matches!(found, Ok(Some(ComparisonStop::Differs(_)))));
     goes_on(&rt, rt.alloc(), &mut player);
     Ok(())
 }

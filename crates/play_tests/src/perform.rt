@@ -4,8 +4,7 @@
 use ffa_model::Ffa;
 use fixtures::ROW_TEXT;
 use play_arguments::{MachineOptions, PlayOptions, Purpose, Request, Source, TextOptions};
-use play_commands::{Commands, Files, Program, show};
-use play_machines::Booted;
+use play_commands::{Files, Program, show};
 use std::alloc::Global;
 use std::io::{self, Write};
 use std::process::Abort;
@@ -76,12 +75,8 @@ const FIRST_TEXT: &str =
     "regs 0000 0000000084000061 0000000000000000 0000000000000000 0000000000000000 0000000000000000 0000000000000000 0000000000000000 0000000000000000\ndone\ndata 2A\nfault translation\nrunner 0000\npages 40000000 4000FFFF 8000 --- ---\npages 40010000 4001FFFF 0000 rw- ---\npages 40020000 4002FFFF 8001 --- rwx\npages 40030000 401FFFFF 8000 --- ---\n";
 
 // Returns the commands with this memory for RAM and for the player.
-fn program<A>(manifests: Global, alloc: A) -> Program<Booted, A> {
-    Program {
-        machines: Booted,
-        manifests,
-        alloc,
-    }
+fn program<A>(manifests: Global, alloc: A) -> Program<A> {
+    Program { manifests, alloc }
 }
 
 // Returns the text that a play of a trace prints on the machine of the rows.

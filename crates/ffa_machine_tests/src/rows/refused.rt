@@ -13,7 +13,7 @@ use ffa_spmc::{Machine, Storage};
 use ffa_tlb::{InTurn, Tlb};
 use fixtures::InPieces;
 use linked_list_allocator::LocalHeap;
-use play_syntax::PlayError;
+use play_trace::PlayError;
 use std::alloc::AllocError;
 use std::io::Read;
 

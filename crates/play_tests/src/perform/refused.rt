@@ -6,7 +6,7 @@ use super::{BUILT_IN, FIRST, FIRST_TEXT, KINDS, ROW, RUN, on_kind, printed, prog
 use fixtures::{InPieces, ROW_TEXT};
 use linked_list_allocator::LocalHeap;
 use play_arguments::{PlayOptions, Request};
-use play_commands::{Commands, Files};
+use play_commands::Files;
 use std::alloc::Global;
 use std::process::Abort;
 use std::test::Fail;

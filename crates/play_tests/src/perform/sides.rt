@@ -6,7 +6,7 @@ use super::{FIRST, MACHINE, TEXT, printed, program};
 use fixtures::{InPieces, ROW_TEXT};
 use linked_list_allocator::LocalHeap;
 use play_arguments::{PlayOptions, Purpose, Request, Source};
-use play_commands::{Commands, Files};
+use play_commands::Files;
 use std::alloc::Global;
 use std::process::Abort;
 use std::test::Fail;

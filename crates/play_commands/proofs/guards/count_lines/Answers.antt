@@ -1,6 +1,6 @@
 -- SPDX-License-Identifier: MIT OR Apache-2.0
 use Rattle.std.proofs.Common.{◌∷◌, [], ◌∙◌, ap, arith}
-use Rattle.play_forms.specs.Guards.{guards_among}
+use Rattle.play_player.specs.Guards.{guards_among}
 use Rattle.play_commands.proofs.Counts.{counted_line, fewer}
 use Rattle.play_commands.proofs.guards.count_lines.Goals as goal
 

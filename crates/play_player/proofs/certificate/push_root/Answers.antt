@@ -1,7 +1,7 @@
 -- SPDX-License-Identifier: MIT OR Apache-2.0
 use Rattle.std.proofs.Common.{◌∙◌, ℕ, [], ◌∷◌, ◌++◌, codes, ap, ap₂}
-use Rattle.play_syntax.specs.TraceText.{ended, hex, root_text, spaced}
-use Rattle.play_syntax.proofs.Listed.{four_pieces}
+use Rattle.play_trace.specs.TraceText.{ended, hex, root_text, spaced}
+use Rattle.play_trace.proofs.Listed.{four_pieces}
 use Rattle.play_player.proofs.certificate.push_root.Goals as goal
 
 pub returns-clause-items : goal.returns-clause-items

@@ -1,7 +1,7 @@
 -- SPDX-License-Identifier: MIT OR Apache-2.0
 use Rattle.std.proofs.Common.{◌∙◌, ◌++◌, sym, ap, arith, append_assoc}
 use Rattle.std.specs.List.{flat_map, range_with_len}
-use Rattle.play_syntax.specs.TraceText.{root_text}
+use Rattle.play_trace.specs.TraceText.{root_text}
 use Rattle.play_player.proofs.CertRuns.{range_parts}
 use Rattle.play_player.proofs.certificate.push_roots.Goals as goal
 

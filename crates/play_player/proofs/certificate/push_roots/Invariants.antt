@@ -2,7 +2,7 @@
 use Rattle.std.proofs.Common.{◌≡◌, ◌+◌, ◌*◌, ◌++◌}
 use Rattle.std.specs.List.{flat_map, range_with_len}
 use Rattle.arrayvec.specs.ArrayVec.{array_vec_len}
-use Rattle.play_syntax.specs.TraceText.{root_text}
+use Rattle.play_trace.specs.TraceText.{root_text}
 use Rattle.play_player.proofs.certificate.push_roots.Given as goal
 
 -- the endpoints so far

@@ -2,7 +2,7 @@
 use Rattle.std.proofs.Common.{◌≡◌, ◌+◌, ◌*◌, ◌++◌, take}
 use Rattle.std.specs.List.{flat_map}
 use Rattle.arrayvec.specs.ArrayVec.{array_vec_len}
-use Rattle.play_syntax.specs.TraceText.{rights_text, spaced}
+use Rattle.play_trace.specs.TraceText.{rights_text, spaced}
 use Rattle.play_player.proofs.certificate.push_run.Given as goal
 
 -- the endpoints so far

@@ -2,9 +2,9 @@
 use Rattle.std.proofs.Common.{◌≡◌, ◌∙◌, ◌++◌, length, ap}
 use Rattle.std.specs.List.{flat_map, range_with_len}
 use Rattle.std.proofs.lemmas.Result.{err_from_is_err_and}
-use Rattle.play_syntax.specs.TraceText.{root_text}
+use Rattle.play_trace.specs.TraceText.{root_text}
 use Rattle.play_player.proofs.CertRuns.{head, head_failed, runs_failed, verdict_left}
-use Rattle.play_syntax.proofs.Fronts.{writes_failed}
+use Rattle.play_trace.proofs.Fronts.{writes_failed}
 use Rattle.play_player.proofs.certificate.write_certificate.Goals as goal
 
 pub returns-in_err-write_text : goal.returns-in_err-write_text

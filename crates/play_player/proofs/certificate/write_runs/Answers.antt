@@ -1,10 +1,10 @@
 -- SPDX-License-Identifier: MIT OR Apache-2.0
 use Rattle.std.proofs.Common.{◌∙◌, sym, subst}
 use Rattle.std.proofs.lemmas.Result.{err_from_is_err_and}
-use Rattle.play_syntax.specs.TraceText.{cert_run_text}
-use Rattle.play_syntax.specs.Output.{TookFront}
+use Rattle.play_trace.specs.TraceText.{cert_run_text}
+use Rattle.play_trace.specs.Output.{TookFront}
 use Rattle.play_player.proofs.CertRuns.{parts_at}
-use Rattle.play_syntax.proofs.Fronts.{front_after, front_before, writes_failed}
+use Rattle.play_trace.proofs.Fronts.{front_after, front_before, writes_failed}
 use Rattle.play_player.proofs.certificate.write_runs.Goals as goal
 
 pub returns-in_err-write_text : goal.returns-in_err-write_text

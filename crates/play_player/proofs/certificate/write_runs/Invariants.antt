@@ -2,7 +2,7 @@
 use Rattle.std.proofs.Common.{take}
 use Rattle.std.specs.Io.KnownBytes.{Appends}
 use Rattle.std.specs.List.{flat_map}
-use Rattle.play_syntax.specs.TraceText.{cert_run_text}
+use Rattle.play_trace.specs.TraceText.{cert_run_text}
 use Rattle.play_player.proofs.certificate.write_runs.Given as goal
 
 -- the runs so far

@@ -2,9 +2,9 @@
 use Rattle.std.proofs.Common.{◌∙◌, ℕ, ◌*◌, List, ◌++◌, ap, sym, subst}
 use Rattle.std.specs.Prelude.{codes}
 use Rattle.ffa_model.specs.Memory.{size_of}
-use Rattle.play_syntax.specs.TraceText.{hex, spaced, ended}
+use Rattle.play_trace.specs.TraceText.{hex, spaced, ended}
 use Rattle.ffa_model.specs.declared.operation.Size.{Size}
-use Rattle.play_syntax.specs.Output.{Writes}
+use Rattle.play_trace.specs.Output.{Writes}
 use Rattle.play_player.proofs.player.write_bytes.Goals as goal
 
 -- the line of data of a size

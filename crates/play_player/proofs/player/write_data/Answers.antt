@@ -1,9 +1,9 @@
 -- SPDX-License-Identifier: MIT OR Apache-2.0
 use Rattle.std.proofs.Common.{ℕ, List, ap, sym, subst}
-use Rattle.play_syntax.specs.TraceText.{outcome_words, outcome_text}
+use Rattle.play_trace.specs.TraceText.{outcome_words, outcome_text}
 use Rattle.ffa_model.specs.declared.operation.Op.{Op}
 use Rattle.ffa_model.specs.declared.operation.Outcome.TheVariants.{Data}
-use Rattle.play_syntax.specs.Output.{Writes}
+use Rattle.play_trace.specs.Output.{Writes}
 use Rattle.play_player.proofs.player.write_data.Goals as goal
 
 pub returns-in-Fetch : goal.returns-in-Fetch

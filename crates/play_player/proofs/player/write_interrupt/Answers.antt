@@ -3,8 +3,8 @@ use Rattle.std.proofs.Common.{◌≡◌, List, ℕ, replicate, refl, subst}
 use Rattle.ffa_model.specs.declared.operation.Op.TheVariants.{Call}
 use Rattle.ffa_model.specs.declared.operation.Outcome.{Outcome}
 use Rattle.ffa_model.specs.declared.operation.Outcome.TheVariants.{Done, Data, Regs, Fault}
-use Rattle.play_syntax.specs.TraceText.{interrupt_text, outcome_text, outcome_words}
-use Rattle.play_syntax.specs.Output.{Writes}
+use Rattle.play_trace.specs.TraceText.{interrupt_text, outcome_text, outcome_words}
+use Rattle.play_trace.specs.Output.{Writes}
 use Rattle.play_player.proofs.player.write_interrupt.Goals as goal
 
 -- what a call prints is told by its outcome

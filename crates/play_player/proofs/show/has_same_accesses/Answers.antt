@@ -3,7 +3,7 @@ use Rattle.std.proofs.Common.{ℕ, sym, ap₂, ◌∙◌, arith}
 use Rattle.ffa_model.specs.Identifiers.{identifier}
 use Rattle.ffa_model.specs.Access.{access}
 use Rattle.ffa_model.specs.Alike.{is_same_right}
-use Rattle.play_syntax.proofs.Listed.{all_more, one_fails}
+use Rattle.play_trace.proofs.Listed.{all_more, one_fails}
 use Rattle.play_player.proofs.show.has_same_accesses.Goals as goal
 
 pub returns-then-not-is_same_right : goal.returns-then-not-is_same_right

@@ -2,8 +2,8 @@
 use Rattle.std.proofs.Common.{ℕ, ◌++◌, ap, ◌∙◌, arith}
 use Rattle.ffa_model.specs.Identifiers.{identifier}
 use Rattle.ffa_model.specs.Access.{access}
-use Rattle.play_syntax.specs.TraceText.{spaced, rights_text}
-use Rattle.play_syntax.proofs.Listed.{parts_more}
+use Rattle.play_trace.specs.TraceText.{spaced, rights_text}
+use Rattle.play_trace.proofs.Listed.{parts_more}
 use Rattle.play_player.proofs.show.push_accesses.Goals as goal
 
 pub loop-place-preserved : goal.loop-place-preserved

@@ -5,7 +5,7 @@ use Rattle.arrayvec.specs.ArrayVec.{array_vec_len}
 use Rattle.ffa_model.specs.Lists.{listed}
 use Rattle.ffa_model.specs.Identifiers.{identifier}
 use Rattle.ffa_model.specs.Access.{access}
-use Rattle.play_syntax.specs.TraceText.{spaced, rights_text}
+use Rattle.play_trace.specs.TraceText.{spaced, rights_text}
 use Rattle.play_player.proofs.show.push_accesses.Given as goal
 
 -- the endpoints so far

@@ -2,8 +2,8 @@
 use Rattle.std.proofs.Common.{◌<◌, length, sym, ◌∙◌, arith, subst}
 use Rattle.std.proofs.lemmas.Result.{err_from_is_err_and}
 use Rattle.std.specs.Io.KnownBytes.{Appends}
-use Rattle.play_syntax.specs.Output.{TookFront}
-use Rattle.play_syntax.proofs.Fronts.{writes_failed}
+use Rattle.play_trace.specs.Output.{TookFront}
+use Rattle.play_trace.proofs.Fronts.{writes_failed}
 use Rattle.play_player.proofs.ShowRuns.{runner_written, runner_failed, no_run, run_written, run_failed, all_shown}
 use Rattle.play_player.proofs.show.write_show.Goals as goal
 use Rattle.play_player.proofs.show.write_show.Goals.{then-ends_run+in_ok-write_text-2, else-ends_run}

@@ -4,7 +4,7 @@ use Rattle.std.specs.Option.{MatchOption}
 use Rattle.std.specs.Prelude.{is_some}
 use Rattle.std.proofs.lemmas.Bool.Decides.{Decides-eqb}
 use Rattle.std.proofs.lemmas.Slice.Eq.{strip_suffix_is}
-use Rattle.play_syntax.specs.TraceLines.{feed}
+use Rattle.play_trace.specs.TraceLines.{feed}
 use Rattle.play_reasons.proofs.fault.line_fault.Goals as goal
 
 pub returns-in-Some-read_in : goal.returns-in-Some-read_in

@@ -1,8 +1,8 @@
 -- SPDX-License-Identifier: MIT OR Apache-2.0
 use Rattle.std.proofs.Common.{[], ◌∷◌, ◌++◌, ◌+◌, ap, ◌∙◌}
-use Rattle.play_syntax.specs.TraceText.{hex, spaced}
+use Rattle.play_trace.specs.TraceText.{hex, spaced}
 use Rattle.play_report.specs.Layouts.{endpoint_line}
-use Rattle.play_syntax.proofs.Listed.{five_pieces}
+use Rattle.play_trace.proofs.Listed.{five_pieces}
 use Rattle.play_report.proofs.layout.push_endpoint.Goals as goal
 
 pub returns-clause-items : goal.returns-clause-items

@@ -2,7 +2,7 @@
 use Rattle.std.proofs.Common.{[], ◌++◌, ap, ◌∙◌, arith}
 use Rattle.ffa_manifest.specs.Document.{parts_of}
 use Rattle.play_report.specs.Layouts.{endpoint_line, layout_line}
-use Rattle.play_syntax.proofs.Listed.{parts_more}
+use Rattle.play_trace.proofs.Listed.{parts_more}
 use Rattle.play_report.proofs.layout.push_layout.Goals as goal
 
 pub loop-place-preserved : goal.loop-place-preserved

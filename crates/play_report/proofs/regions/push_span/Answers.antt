@@ -1,7 +1,7 @@
 -- SPDX-License-Identifier: MIT OR Apache-2.0
 use Rattle.std.proofs.Common.{[], ◌∷◌, ◌++◌, ◌-◌, ap, ◌∙◌}
-use Rattle.play_syntax.specs.TraceText.{hex, spaced}
-use Rattle.play_syntax.proofs.Listed.{four_pieces}
+use Rattle.play_trace.specs.TraceText.{hex, spaced}
+use Rattle.play_trace.proofs.Listed.{four_pieces}
 use Rattle.play_report.specs.Layouts.{span_line}
 use Rattle.play_report.proofs.regions.push_span.Goals as goal
 

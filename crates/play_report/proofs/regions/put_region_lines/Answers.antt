@@ -5,7 +5,7 @@ use Rattle.std.proofs.lemmas.Option.{slice_get_read}
 use Rattle.ffa_model.specs.declared.endpoint.Endpoint.{Endpoint}
 use Rattle.ffa_model.specs.Lists.{listed}
 use Rattle.ffa_manifest.specs.Document.{parts_of}
-use Rattle.play_syntax.proofs.Listed.{parts_more}
+use Rattle.play_trace.proofs.Listed.{parts_more}
 use Rattle.play_report.specs.Layouts.{endpoint_regions, region_line}
 use Rattle.play_report.proofs.regions.put_region_lines.Goals as goal
 

@@ -1,6 +1,6 @@
 -- SPDX-License-Identifier: MIT OR Apache-2.0
 use Rattle.ffa_manifest.specs.Document.{parts_of}
-use Rattle.play_tasks.proofs.Plays.{always_ok}
+use Rattle.play_commands.proofs.Plays.{always_ok}
 use Rattle.play_commands.proofs.program.Program.generate.Goals as goal
 
 pub returns-then-options-clause-done : goal.returns-then-options-clause-done

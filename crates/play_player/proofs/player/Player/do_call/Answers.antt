@@ -1,8 +1,8 @@
 -- SPDX-License-Identifier: MIT OR Apache-2.0
 use Rattle.std.proofs.Common.{◌∙◌, sym}
-use Rattle.play_syntax.specs.TraceLines.{operate}
-use Rattle.play_syntax.proofs.LineCommands.{call_line}
-use Rattle.play_syntax.proofs.LineActs.{bad_in, call_no_act, good_in}
+use Rattle.play_trace.specs.TraceLines.{operate}
+use Rattle.play_trace.proofs.LineCommands.{call_line}
+use Rattle.play_trace.proofs.LineActs.{bad_in, call_no_act, good_in}
 use Rattle.play_player.proofs.OneLine.{line_written, line_bad}
 use Rattle.play_player.proofs.player.Player.do_call.Goals as goal
 

@@ -1,6 +1,6 @@
 -- SPDX-License-Identifier: MIT OR Apache-2.0
 use Rattle.std.proofs.Common.{◌≡◌, get_or, arith}
-use Rattle.play_syntax.proofs.LineCommands.{empty_line, comment_line}
+use Rattle.play_trace.proofs.LineCommands.{empty_line, comment_line}
 use Rattle.play_player.proofs.OneLine.{line_skipped}
 use Rattle.play_player.proofs.player.Player.do_line.Goals as goal
 

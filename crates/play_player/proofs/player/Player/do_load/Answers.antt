@@ -1,9 +1,9 @@
 -- SPDX-License-Identifier: MIT OR Apache-2.0
 use Rattle.std.proofs.Common.{◌∙◌, sym}
 use Rattle.ffa_model.specs.declared.operation.Op.TheVariants.{Load}
-use Rattle.play_syntax.specs.TraceLines.{operate}
-use Rattle.play_syntax.proofs.LineCommands.{load_line}
-use Rattle.play_syntax.proofs.LineActs.{bad_in, load_no_act, good_in}
+use Rattle.play_trace.specs.TraceLines.{operate}
+use Rattle.play_trace.proofs.LineCommands.{load_line}
+use Rattle.play_trace.proofs.LineActs.{bad_in, load_no_act, good_in}
 use Rattle.play_player.proofs.OneLine.{line_written, line_bad}
 use Rattle.play_player.proofs.player.Player.do_load.Goals as goal
 

@@ -1,7 +1,7 @@
 -- SPDX-License-Identifier: MIT OR Apache-2.0
 use Rattle.std.proofs.Common.{◌∙◌, Ok, Err, ap}
 use Rattle.std.proofs.lemmas.Result.{err_from_is_err_and}
-use Rattle.play_syntax.specs.TraceLines.{line_in}
+use Rattle.play_trace.specs.TraceLines.{line_in}
 use Rattle.play_player.proofs.OneLine.{line_answered}
 use Rattle.play_player.proofs.player.Player.do_other.Goals as goal
 

@@ -1,3 +1,0 @@
--- SPDX-License-Identifier: MIT OR Apache-2.0
-pub mod Lists
-pub mod Marks

@@ -1,9 +1,0 @@
--- SPDX-License-Identifier: MIT OR Apache-2.0
-use Rattle.play_syntax.proofs.LineCommands.{fetch_is, no_fetch}
-use Rattle.play_syntax.proofs.line.fetch.Goals as goal
-
-pub returns-in-Last : goal.returns-in-Last
-returns-in-Last c = let (one, number) = c.in-Last.ensures in fetch_is c.args.words.now c.in-Last.addr one number
-
-pub returns-in-More : goal.returns-in-More
-returns-in-More c = no_fetch c.args.words.now c.read_front.result c.read_front.ensures c.in-More.is

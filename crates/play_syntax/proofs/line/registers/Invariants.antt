@@ -1,7 +1,0 @@
--- SPDX-License-Identifier: MIT OR Apache-2.0
-use Rattle.play_syntax.specs.TraceLines.{words_of}
-use Rattle.play_syntax.proofs.LineRegisters.{Reading}
-use Rattle.play_syntax.proofs.line.registers.Given as goal
-
-abbrev pub invariant-loop-count : goal.invariant-loop-count
-invariant-loop-count l = Reading (words_of l.words) (words_of l.rest) l.x l.count

@@ -1,6 +1,0 @@
--- SPDX-License-Identifier: MIT OR Apache-2.0
-use Rattle.play_syntax.proofs.Digits.{Written}
-use Rattle.play_syntax.proofs.number.digits.Given as goal
-
-abbrev pub invariant-loop-byte : goal.invariant-loop-byte
-invariant-loop-byte l = Written l.word l.number l.byte-index

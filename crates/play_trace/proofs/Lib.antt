@@ -1,0 +1,31 @@
+-- SPDX-License-Identifier: MIT OR Apache-2.0
+pub mod Benches
+pub mod Bytes
+pub mod Cutting
+mod DigitTable
+pub mod Digits
+pub mod DigitsRead
+pub mod Fitness
+pub mod Fronts
+pub mod Headings
+pub mod LineActs
+pub mod LineCommands
+pub mod LineNumbers
+pub mod LineRegisters
+pub mod LineWords
+pub mod Listed
+pub mod Needs
+pub mod NumberFronts
+pub mod Operations
+pub mod Places
+pub mod Relinquishes
+pub mod Retrieves
+pub mod Runs
+pub mod Sends
+pub mod Sizes
+pub mod Splits
+pub mod Storing
+pub mod TextDigits
+pub mod Unparsed
+pub mod Words
+pub mod WordsPut

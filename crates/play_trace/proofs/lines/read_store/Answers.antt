@@ -1,0 +1,10 @@
+-- SPDX-License-Identifier: MIT OR Apache-2.0
+use Rattle.std.proofs.Common.{◌∙◌, sym}
+use Rattle.play_trace.proofs.LineCommands.{store_line}
+use Rattle.play_trace.proofs.lines.read_store.Goals as goal
+
+pub returns-in-Some : goal.returns-in-Some
+returns-in-Some c = c.in-Some.ensures ∙ sym (store_line c.args.words.now)
+
+pub returns-in-None : goal.returns-in-None
+returns-in-None c = c.in-None.ensures ∙ sym (store_line c.args.words.now)

@@ -1,6 +1,0 @@
--- SPDX-License-Identifier: MIT OR Apache-2.0
-use Rattle.std.proofs.Common.{rules}
-use Rattle.play_writer.proofs.retrieve.permissions_of.Goals as goal
-
-pub returns-then-exec : goal.returns-then-exec
-returns-then-exec c = search rules

@@ -1,6 +1,0 @@
--- SPDX-License-Identifier: MIT OR Apache-2.0
-use Rattle.std.proofs.Common.{length}
-use Rattle.play_writer.proofs.unfit.+first_broken.Given as goal
-
-abbrev pub decreases-first_broken : goal.decreases-first_broken
-decreases-first_broken l = length l.conditions.now

@@ -1,5 +1,0 @@
--- SPDX-License-Identifier: MIT OR Apache-2.0
-use Rattle.play_writer.proofs.unfit.unfit_receivers.Goals as goal
-
-pub returns : goal.returns
-returns c = cc
